@@ -6,11 +6,12 @@ ghost use Rattle.terms.specs.Settings.{settings_of};
 ghost use Rattle.call_explain.specs.Answers.{ExplainedIs};
 
 use byte_writer::copies::copy_bytes;
+use filter_tree::lengths::{MIDDLE_BYTES, MIDDLE_NODES, MOST_NODES, SHORT_BYTES, SHORT_NODES};
+use filter_tree::tree::Tree;
 use frame_reader::frames::physical_frame_in;
 use leaf_verdicts::taken::{TakenLeaf, named_by};
 use leaf_verdicts::walk::put_verdicts;
-use node_rows::lengths::{MIDDLE_BYTES, MIDDLE_NODES, MOST_NODES, SHORT_BYTES, SHORT_NODES};
-use node_rows::rows::Rows;
+use node_table::NO_RECORD;
 use terms::checked::Checked;
 use terms::refusals::Refusal;
 use terms::settings::Settings;
@@ -32,26 +33,25 @@ fn explain_by<const NODES: usize>(
     requires { (min most_nodes (length frame.now / 3) ≤ NODES) × (NODES ≤ most_nodes) }
     ensures { ExplainedIs (definitions.explain (settings_of settings.settings) frame.now out.old) out.new result }
 {
-    let mut numbers = [0u32; NODES];
-    let mut next = [0u16; NODES];
-    let parts = physical_frame_in(&mut numbers, &mut next, frame)?;
-    let rows = Rows {
-        numbers: &numbers,
-        next: &next,
+    let mut row = [NO_RECORD; NODES];
+    let parts = physical_frame_in(&mut row, frame)?;
+    let tree = Tree {
+        bytes: frame,
+        nodes: &row[..parts.nodes],
     };
-    let mut row = [0u8; NODES];
-    let count = put_verdicts(&mut row, frame, parts.records, rows, settings.settings);
+    let mut verdicts = [0u8; NODES];
+    let count = put_verdicts(&mut verdicts, tree, parts.records, settings.settings);
     if out.len() < count {
         return Err(Refusal::BufferTooShort);
     }
-    copy_bytes(out, &row, 0, count);
+    copy_bytes(out, &verdicts, 0, count);
     Ok(Explained {
         count,
-        taken: named_by(&row[..count]),
+        taken: named_by(&verdicts[..count]),
     })
 }
 
-// Writes the verdict of each AND-leaf of a frame to the buffer's start. Short rows are enough for a short frame, and the longer ones cost
+// Writes the verdict of each AND-leaf of a frame to the buffer's start. A short row is enough for a short frame, and the longer ones cost
 // more to clear than such a frame to read.
 pub fn explain(out: &mut [u8], frame: &[u8], settings: Settings) -> Result<Explained, Refusal>
     ensures { ExplainedIs (definitions.explain (settings_of settings) frame.now out.old) out.new result }

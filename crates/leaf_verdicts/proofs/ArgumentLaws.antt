@@ -2,20 +2,24 @@
 use Rattle.std.specs.Prelude.{Option, Some, None}
 use Prim.Native.Nat.{ℕ, ◌+◌, ◌-◌, ◌<◌, ◌≤◌}
 use native.Mathlib.Omega.{arith}
-use mathlib.Core.Path.{◌≡◌, refl, ◌∙◌}
+use mathlib.Core.Path.{◌≡◌, refl, sym, ◌∙◌, subst}
 use mathlib.Core.Bool.{false}
 use mathlib.Core.List.{List}
 use lib.ListN.{length}
 use Rattle.definitions.specs.Words.Expression.{Expr, Exprs, nil, cons, count, Record}
 use Rattle.definitions.specs.Bytes.Encode.{expr_bytes}
-use Rattle.definitions.specs.Bytes.Decode.{Columns, index_below}
+use Rattle.definitions.specs.Bytes.Decode.{index_below}
 use Rattle.definitions.specs.Filter.Verdicts.{Verdict, as_relation, too_few_arguments, too_many_arguments, with_bound, argument_is, has_argument, sides_of}
 use Rattle.expression.specs.Nodes.{Row, Trees}
 use Rattle.expression.proofs.Standing.{some-children}
 use Rattle.expression.proofs.Parts.{two-of}
 use Rattle.definitions.specs.Bytes.Good.{nodes}
+use Rattle.node_table.specs.declared.NodeRecord.{NodeRecord as Lent}
+use Rattle.filter_tree.specs.Trees.{OfNode}
+use Rattle.filter_tree.proofs.Children.{noded-rest}
+use Rattle.leaf_matching.proofs.Framing.{rest_over}
 use Rattle.leaf_verdicts.specs.Laid.{Laid, LaidAll, AtIndex, RowAt, OfRow, OfTwoAt}
-use Rattle.leaf_verdicts.proofs.LaidLaws.{first-laid, rest-laid, first-at}
+use Rattle.leaf_verdicts.proofs.LaidLaws.{first-laid, first-at}
 use Rattle.leaf_verdicts.specs.declared.geometries.GeometriesVerdict.{GeometriesVerdict}
 use Rattle.std.specs.Option.{unwrap_or}
 use Rattle.leaf_verdicts.specs.declared.verdict.Verdict as verdicts
@@ -77,70 +81,89 @@ or-else None v = refl
 
 -- ---- the geometries first
 
-module _ {s : List ℕ} {rec : ℕ} {numbers next : List ℕ} {i n : ℕ} (g : GeometriesVerdict)
-    (is : OfTwoAt s rec numbers next i (GeometriesTold i g)) (enough : 2 ≤ n) where
-  -- What follows them stands where they end.
-  after-two : {at : ℕ} {records : List Record} {a b : Expr} {more : Exprs}
-      → LaidAll s rec numbers next at i n records (cons a (cons b more)) → LaidAll s rec numbers next g.end g.after (n - 2) records more
-  after-two {at} {records} {a} {b} {more} h =
-      let told = is at n records a b more h in
-      rest-laid (rest-laid h (at + length (expr_bytes a)) (i + nodes a) (n - 1) refl refl (omega arith)) g.end g.after (n - 2)
-      told.end told.after (omega arith)
+module _ {s : List ℕ} {rec : ℕ} {xs : List Lent} {i n : ℕ} (g : GeometriesVerdict)
+    (is : OfTwoAt s rec xs i (GeometriesTold i g)) (enough : 2 ≤ n) where
+  module _ {at : ℕ} {records : List Record} {a b : Expr} {more : Exprs} (h : LaidAll s rec xs at i n records (cons a (cons b more))) where
+    -- What follows the first is there, and what follows the second.
+    after-one : LaidAll s rec xs (at + length (expr_bytes a)) g.second (n - 1) records (cons b more)
+    after-one = record {
+      over = rest_over h.over _ (n - 1) refl (omega (arith, enough));
+      noded = noded-rest h.noded _ _ refl (is at n records a b more h).second;
+    }
 
-  -- Whatever the verdict after them is.
-  told : {at : ℕ} {records : List Record} {a b : Expr} {more : Exprs} → LaidAll s rec numbers next at i n records (cons a (cons b more))
-      → (after : Verdict) → or_after g.reason after ≡ geometry_verdict (sides_of records a) (sides_of records b) after
-  told {at} {records} {a} {b} {more} h = (is at n records a b more h).told
+    after-two : {k : ℕ} → k ≡ g.second + nodes b
+        → LaidAll s rec xs (at + length (expr_bytes a) + length (expr_bytes b)) k (n - 2) records more
+    after-two e = record {
+      over = rest_over after-one.over _ (n - 2) refl (omega (arith, enough));
+      noded = noded-rest after-one.noded _ _ refl e;
+    }
+
+    -- Whatever the verdict after them is.
+    told : (after : Verdict) → or_after g.reason after ≡ geometry_verdict (sides_of records a) (sides_of records b) after
+    told = (is at n records a b more h).told
 
   by-two : (P : List Record → Exprs → Type 0) → ((at : ℕ) (records : List Record) (a b : Expr) (more : Exprs)
-      → LaidAll s rec numbers next at i n records (cons a (cons b more)) → P records (cons a (cons b more)))
-      → OfRow s rec numbers next i n P
+      → LaidAll s rec xs at i n records (cons a (cons b more)) → P records (cons a (cons b more)))
+      → OfRow s rec xs i n P
   by-two P f at records ts h =
-      two-of (λ ts. LaidAll s rec numbers next at i n records ts → P records ts) (f at records) ts (omega (arith, h.over.row.counted)) h
+      two-of (λ ts. LaidAll s rec xs at i n records ts → P records ts) (f at records) ts (omega (arith, h.over.row.counted)) h
 
-  pub relation-told : OfRow s rec numbers next i n (λ records ts. or_after g.reason as_relation ≡ relation_stage records ts)
+  pub relation-told : OfRow s rec xs i n (λ records ts. or_after g.reason as_relation ≡ relation_stage records ts)
   unfolding relation_stage
   relation-told = by-two (λ records ts. or_after g.reason as_relation ≡ relation_stage records ts)
       (λ at records a b more h. told h as_relation)
 
   pub measured-told : (v : Verdict) (q : ℕ)
-      → ((at : ℕ) (records : List Record) (d : Expr) → Laid s rec numbers next at q records d
+      → ((at : ℕ) (records : List Record) (d : Expr) → Laid s rec xs at q records d
       → v ≡ or_after g.reason (bound_verdict (sides_of records d)))
-      → OfRow s rec numbers next i n (λ records ts. (at : ℕ) (d : Expr) → Laid s rec numbers next at q records d
+      → OfRow s rec xs i n (λ records ts. (at : ℕ) (d : Expr) → Laid s rec xs at q records d
       → v ≡ distance_stage records (with_bound d ts))
   unfolding distance_stage with_bound
   measured-told v q e = by-two
-      (λ records ts. (at : ℕ) (d : Expr) → Laid s rec numbers next at q records d → v ≡ distance_stage records (with_bound d ts))
+      (λ records ts. (at : ℕ) (d : Expr) → Laid s rec xs at q records d → v ≡ distance_stage records (with_bound d ts))
       (λ at records a b more h p d bound. e p records d bound ∙ told h (bound_verdict (sides_of records d)))
 
-  -- The bound after them.
-  pub third-at : RowAt s rec numbers next i n → 3 ≤ n → AtIndex s rec numbers next g.after
-  third-at p h = two-of (λ ts. LaidAll s rec numbers next p.0 i n p.1 ts → AtIndex s rec numbers next g.after)
-      (λ a b more o. first-at (g.end, p.1, more, after-two o) (omega arith)) p.2 (omega (arith, p.3.over.row.counted)) p.3
+  -- The second has an index, and so have the bound and the options after it.
+  pub second-at : RowAt s rec xs i n → AtIndex s rec xs g.second
+  second-at p = two-of (λ ts. LaidAll s rec xs p.0 i n p.1 ts → AtIndex s rec xs g.second)
+      (λ a b more o. (_, p.1, b, first-laid (after-one o))) p.2 (omega (arith, p.3.over.row.counted)) p.3
+
+  pub third-at : RowAt s rec xs i n → 3 ≤ n → {k : ℕ} → OfNode xs g.second (λ at t. k ≡ g.second + nodes t) → AtIndex s rec xs k
+  third-at p h {k} after = two-of (λ ts. LaidAll s rec xs p.0 i n p.1 ts → AtIndex s rec xs k)
+      (λ a b more o. first-at (_, p.1, more, after-two o (after _ b (first-laid (after-one o)).noded)) (omega arith))
+      p.2 (omega (arith, p.3.over.row.counted)) p.3
 
   pub distance-told : 3 ≤ n → (v : Verdict)
-      → ((at : ℕ) (records : List Record) (d : Expr) → Laid s rec numbers next at g.after records d
+      → ((p : ℕ) (records : List Record) (b d : Expr) → Laid s rec xs p g.second records b
+      → Laid s rec xs (p + length (expr_bytes b)) (g.second + nodes b) records d
       → v ≡ or_after g.reason (bound_verdict (sides_of records d)))
-      → OfRow s rec numbers next i n (λ records ts. v ≡ distance_stage records ts)
+      → OfRow s rec xs i n (λ records ts. v ≡ distance_stage records ts)
   unfolding distance_stage
   distance-told h v e = by-two (λ records ts. v ≡ distance_stage records ts)
       (λ at records a b more o. some-children
-      (λ more. LaidAll s rec numbers next g.end g.after (n - 2) records more
+      (λ more. LaidAll s rec xs (at + length (expr_bytes a) + length (expr_bytes b)) (g.second + nodes b) (n - 2) records more
       → ((after : Verdict) → or_after g.reason after ≡ geometry_verdict (sides_of records a) (sides_of records b) after)
       → v ≡ distance_stage records (cons a (cons b more)))
-      (λ d ts rest told. e g.end records d (first-laid rest) ∙ told (bound_verdict (sides_of records d)))
-      more (omega (arith, (after-two o).over.row.counted)) (after-two o) (told o))
+      (λ d ts rest told. e _ records b d (first-laid (after-one o)) (first-laid rest) ∙ told (bound_verdict (sides_of records d)))
+      more (omega (arith, (after-two o refl).over.row.counted)) (after-two o refl) (told o))
 
-  -- The options after them.
-  pub options-there : RowAt s rec numbers next i n → Trees s g.end (n - 2)
-  options-there p = two-of (λ ts. LaidAll s rec numbers next p.0 i n p.1 ts → Trees s g.end (n - 2))
-      (λ a b more o. (index_below (length p.1), more, (after-two o).over.row)) p.2 (omega (arith, p.3.over.row.counted)) p.3
+  pub options-there : RowAt s rec xs i n → {p : ℕ} → OfNode xs g.second (λ at t. p ≡ at + length (expr_bytes t)) → Trees s p (n - 2)
+  options-there r {p} end = two-of (λ ts. LaidAll s rec xs r.0 i n r.1 ts → Trees s p (n - 2))
+      (λ a b more o. (
+        index_below (length r.1),
+        more,
+        subst (λ (p : ℕ). Row (index_below (length r.1)) s p (n - 2) more)
+            (sym (end _ b (first-laid (after-one o)).noded)) (after-two o refl).over.row,
+      )) r.2 (omega (arith, r.3.over.row.counted)) r.3
 
   pub knn-told : n ≤ 5 → (greatest : ℕ) (v : Verdict)
-      → ((c : Columns) (more : Exprs) → Row c s g.end (n - 2) more → v ≡ or_after g.reason (options_stage greatest more))
-      → OfRow s rec numbers next i n (λ records ts. v ≡ knn_stage greatest records ts)
+      → ((p : ℕ) (records : List Record) (b : Expr) (more : Exprs) → Laid s rec xs p g.second records b
+      → Row (index_below (length records)) s (p + length (expr_bytes b)) (n - 2) more
+      → v ≡ or_after g.reason (options_stage greatest more))
+      → OfRow s rec xs i n (λ records ts. v ≡ knn_stage greatest records ts)
   unfolding knn_stage
   knn-told few greatest v e = by-two (λ records ts. v ≡ knn_stage greatest records ts)
       (λ at records a b more o.
-      rw (no-sixth more (omega (arith, (after-two o).over.row.counted)))
-      (e (index_below (length records)) more (after-two o).over.row ∙ told o (options_stage greatest more)))
+      let rest = (after-two o refl).over.row in
+      rw (no-sixth more (omega (arith, rest.counted)))
+      (e _ records b more (first-laid (after-one o)) rest ∙ told o (options_stage greatest more)))

@@ -6,13 +6,14 @@ use mathlib.Core.Path.{◌≡◌, refl, sym, ap, ◌∙◌}
 use mathlib.Core.Bool.{Bool, true, false, not}
 use mathlib.Core.List.{List}
 use mathlib.Core.Option.{none, some}
-use Rattle.definitions.specs.Words.Expression.{Expr, and, binary, call, Exprs, nil, cons, Record}
+use Rattle.definitions.specs.Words.Expression.{Expr, binary, call, Exprs, nil, cons, Record}
 use Rattle.definitions.specs.Words.Leaves.{Comparison, comparison, compares, no_comparison, distance_arguments}
 use Rattle.definitions.specs.Filter.Names.{lower_case}
 use Rattle.definitions.specs.Filter.Settings.{Settings, has_bit}
-use Rattle.definitions.specs.Filter.Verdicts.{Verdict, other_case, other_side, other_operator, nothing_of_ours, some_of_ours, kind_left_out, PriceLine, relation_line, distance_line, knn_line, no_line, line_named, line_compared, line_meant, is_no_line, with_bound, arguments_compared, arguments_of, measured_in_small, ours_in_small, measured_other_side, measured_beside, distance_on_other_side, distance_beside_other, parts_of, left_out, verdict_under}
+use Rattle.definitions.specs.Filter.Verdicts.{Verdict, other_case, other_side, other_operator, kind_left_out, PriceLine, relation_line, distance_line, knn_line, no_line, line_named, line_compared, line_meant, is_no_line, with_bound, arguments_compared, arguments_of, measured_in_small, ours_in_small, measured_other_side, measured_beside, distance_on_other_side, distance_beside_other, parts_of, left_out, verdict_under}
 use Rattle.expression.specs.Nodes.{children_of}
 use Rattle.expression.specs.Leaves.{PlainNode, plain_column, plain_literal, plain_other, plain_field}
+use Rattle.filter_tree.specs.Spines.{is_leaf}
 use Rattle.leaf_verdicts.specs.Stages.{relation_stage, distance_stage, knn_stage, inside_stage, other_stage, operator_stage, no_stage, stage}
 use Rattle.leaf_verdicts.proofs.StageLaws.Staged.{verdict-staged}
 
@@ -90,11 +91,14 @@ module _ (S : Settings) (records : List Record) (operator : ℕ) (l r : Expr) wh
 
 -- ---- other nodes
 
-module _ (S : Settings) (records : List Record) where
-  pub and-told : (l r : Expr) → verdict_under S records (and l r) ≡ nothing_of_ours
-  unfolding line_meant stage no_stage ours_in_small distance_on_other_side distance_beside_other parts_of some_of_ours
-  and-told l r = verdict-staged S records (and l r)
+pub plain-is-leaf : {t : Expr} → PlainNode t → is_leaf t ≡ true
+unfolding is_leaf
+plain-is-leaf plain_column = refl
+plain-is-leaf plain_literal = refl
+plain-is-leaf plain_other = refl
+plain-is-leaf plain_field = refl
 
+module _ (S : Settings) (records : List Record) where
   pub plain-told : {t : Expr} → PlainNode t → verdict_under S records t ≡ inside_stage (children_of t)
   unfolding line_meant stage no_stage inside_stage ours_in_small distance_on_other_side distance_beside_other parts_of children_of
   plain-told {t} plain_column = verdict-staged S records t

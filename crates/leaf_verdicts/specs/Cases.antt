@@ -1,6 +1,10 @@
 -- The definitions' cases of verdicts and lines.
+use Rattle.std.specs.Prelude.{◌≡◌, true, false, List, Option, Some, None}
+use Rattle.definitions.specs.Words.Expression.{Expr, Record}
+use Rattle.definitions.specs.Filter.Settings.{Settings}
 use Rattle.definitions.specs.Filter.Verdicts as definitions
 use Rattle.definitions.specs.Filter.Verdicts.{as_relation, as_distance, as_knn, other_case, other_side, other_operator, inside_another, nothing_of_ours, kind_left_out, too_few_arguments, too_many_arguments, first_without_columns, first_of_both, first_with_mark, second_without_columns, second_of_both, second_with_mark, both_left, both_right, bound_of_both, bound_with_mark, k_no_number, k_below_one, k_above_greatest, spheroid_no_flag, ties_no_flag, relation_line, distance_line, knn_line, no_line}
+use Rattle.filter_tree.specs.Spines.{is_leaf}
 use Rattle.leaf_verdicts.specs.declared.lines.PriceLine.{PriceLine}
 use Rattle.leaf_verdicts.specs.declared.lines.PriceLine.TheVariants as line
 use Rattle.leaf_verdicts.specs.declared.verdict.Verdict.{Verdict}
@@ -39,3 +43,8 @@ line_of line.Relation = relation_line
 line_of line.Distance = distance_line
 line_of line.Knn = knn_line
 line_of line.None = no_line
+
+-- An AND-leaf has its verdict, an And has none.
+abbrev pub LeafTold : Settings → Option Verdict → (records : List Record) → Expr → Type 0
+LeafTold S (Some r) records t = (is_leaf t ≡ true) × (verdict_of r ≡ definitions.verdict_under S records t)
+LeafTold S None records t = is_leaf t ≡ false

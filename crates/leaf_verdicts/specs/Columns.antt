@@ -1,7 +1,6 @@
 -- What the answers about columns mean.
-use Rattle.std.specs.Prelude.{ℕ, ◌+◌, ◌≡◌, Bool, true, false, List, length, Option, Some, None}
+use Rattle.std.specs.Prelude.{ℕ, ◌+◌, ◌≡◌, Bool, true, false, List, Option, Some, None}
 use Rattle.definitions.specs.Words.Expression.{Expr, Record}
-use Rattle.definitions.specs.Bytes.Encode.{expr_bytes}
 use Rattle.definitions.specs.Bytes.Good.{nodes}
 use Rattle.definitions.specs.Filter.Verdicts as definitions
 use Rattle.definitions.specs.Filter.Verdicts.{sides_of}
@@ -67,10 +66,9 @@ abbrev pub or_after : Option Verdict → (after : definitions.Verdict) → defin
 or_after (Some why) after = verdict_of why
 or_after None after = after
 
--- Where two geometries end, the index after them, and what is wrong with them.
-pub record GeometriesTold (i : ℕ) (r : GeometriesVerdict) (at : ℕ) (records : List Record) (a b : Expr) : Type 0 where
-  pub end : r.end ≡ at + length (expr_bytes a) + length (expr_bytes b)
-  pub after : r.after ≡ i + nodes a + nodes b
+-- The index of the second of two geometries, and what is wrong with them.
+pub record GeometriesTold (i : ℕ) (r : GeometriesVerdict) (records : List Record) (a b : Expr) : Type 0 where
+  pub second : r.second ≡ i + nodes a
   pub told : (after : definitions.Verdict) → or_after r.reason after ≡ geometry_verdict (sides_of records a) (sides_of records b) after
 
 -- What is wrong with a bound.

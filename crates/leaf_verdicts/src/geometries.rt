@@ -6,7 +6,7 @@ ghost use Rattle.leaf_verdicts.specs.Columns.{geometry_reason, same_child, order
 
 use super::verdict::Verdict;
 use leaf_matching::filter::Filter;
-use leaf_matching::sides::{SeenSides, SideFlags, seen_by_rows};
+use leaf_matching::sides::{SeenSides, SideFlags, seen_sides};
 
 // The verdicts of a geometry: of one without columns, with columns of both children, and with a mark column.
 #[derive(Clone, Copy)]
@@ -83,36 +83,33 @@ fn seen_reason(first: SeenSides, second: SeenSides) -> Option<Verdict>
     }
 }
 
-// Two geometries in a row: what is wrong with them, where they end, and the index after them.
+// Two geometries in a row: what is wrong with them, and the index of the second.
 #[derive(Clone, Copy)]
 pub struct GeometriesVerdict {
     pub reason: Option<Verdict>,
-    pub end: usize,
-    pub after: usize,
+    pub second: usize,
 }
 
 // The geometries of an index and of the one after it.
 pub fn two_geometries(filter: Filter, i: usize) -> GeometriesVerdict
-    requires { TwoAt filter.s.now filter.rec filter.rows.numbers.now filter.rows.next.now i }
-    ensures { OfTwoAt filter.entry.s.now filter.entry.rec filter.entry.rows.numbers.now filter.entry.rows.next.now i
+    requires { TwoAt filter.tree.bytes.now filter.rec filter.tree.nodes.now i }
+    ensures { OfTwoAt filter.entry.tree.bytes.now filter.entry.rec filter.entry.tree.nodes.now i
         (GeometriesTold i result) }
 {
-    let two = filter.rows.two(i);
-    let middle = filter.rows.after(i);
-    let first = seen_by_rows(filter, i, middle);
-    let second = seen_by_rows(filter, middle, two.after);
+    let second = filter.tree.after(i);
+    let of_first = seen_sides(filter, i);
+    let of_second = seen_sides(filter, second);
     GeometriesVerdict {
-        reason: seen_reason(first, second),
-        end: two.end,
-        after: two.after,
+        reason: seen_reason(of_first, of_second),
+        second,
     }
 }
 
 // The verdict of the bound of an index, where the geometries are right.
 pub fn bound_verdict(filter: Filter, i: usize) -> Verdict
-    requires { AtIndex filter.s.now filter.rec filter.rows.numbers.now filter.rows.next.now i }
-    ensures { OfIndex filter.entry.s.now filter.entry.rec filter.entry.rows.numbers.now filter.entry.rows.next.now i (BoundTold result) }
+    requires { AtIndex filter.tree.bytes.now filter.rec filter.tree.nodes.now i }
+    ensures { OfIndex filter.entry.tree.bytes.now filter.entry.rec filter.entry.tree.nodes.now i
+        (BoundTold result) }
 {
-    let end = filter.rows.after(i);
-    bound_reason(seen_by_rows(filter, i, end).flags())
+    bound_reason(seen_sides(filter, i).flags())
 }

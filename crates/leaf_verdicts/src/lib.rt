@@ -1,4 +1,4 @@
-// Why an AND-leaf can be indexed or cannot: its verdict. (Ours, beyond document 02.)
+// Why an AND-leaf can be indexed or cannot: its verdict. (Ours: the Rust gives none.)
 #![tactic(auto)]
 
 pub mod asked;

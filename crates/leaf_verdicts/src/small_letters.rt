@@ -19,20 +19,20 @@ pub fn named_in_small(name: &[u8]) -> bool
 
 // Whether the node of an index is an `st_distance`, letter case aside.
 pub fn is_distance(filter: Filter, i: usize) -> bool
-    requires { AtIndex filter.s.now filter.rec filter.rows.numbers.now filter.rows.next.now i }
-    ensures { OfIndex filter.entry.s.now filter.entry.rec filter.entry.rows.numbers.now filter.entry.rows.next.now i
+    requires { AtIndex filter.tree.bytes.now filter.rec filter.tree.nodes.now i }
+    ensures { OfIndex filter.entry.tree.bytes.now filter.entry.rec filter.entry.tree.nodes.now i
         (λ records t. result ≡ definitions.is_distance_call t) }
 {
-    is_distance_expr(filter.s, filter.rows.start(i))
+    is_distance_expr(filter.tree.bytes, filter.tree.start(i))
 }
 
 // Whether a comparison looks at `st_distance`, letter case aside; its left side has an index.
 fn measured_in_small(filter: Filter, operator: u8, left: usize) -> bool
-    requires { PairAt filter.s.now filter.rec filter.rows.numbers.now filter.rows.next.now left }
-    ensures { OfPairAt filter.entry.s.now filter.entry.rec filter.entry.rows.numbers.now filter.entry.rows.next.now left
+    requires { PairAt filter.tree.bytes.now filter.rec filter.tree.nodes.now left }
+    ensures { OfPairAt filter.entry.tree.bytes.now filter.entry.rec filter.entry.tree.nodes.now left
         (λ records l r. result ≡ definitions.ours_in_small (binary operator l r)) }
 {
-    match comparison(operator, left, filter.rows.after(left)) {
+    match comparison(operator, left, filter.tree.after(left)) {
         Some(sides) => is_distance(filter, sides.measured),
         None => false,
     }
@@ -40,12 +40,12 @@ fn measured_in_small(filter: Filter, operator: u8, left: usize) -> bool
 
 // Whether the expression of an index would be meant for a line.
 fn ours_in_small(filter: Filter, i: usize) -> bool
-    requires { AtIndex filter.s.now filter.rec filter.rows.numbers.now filter.rows.next.now i }
-    ensures { OfIndex filter.entry.s.now filter.entry.rec filter.entry.rows.numbers.now filter.entry.rows.next.now i
+    requires { AtIndex filter.tree.bytes.now filter.rec filter.tree.nodes.now i }
+    ensures { OfIndex filter.entry.tree.bytes.now filter.entry.rec filter.entry.tree.nodes.now i
         (λ records t. result ≡ definitions.ours_in_small t) }
 {
-    match node_at(filter.s, filter.rows.start(i)) {
-        Node::Call(called) => named_in_small(called.name(filter.s)),
+    match node_at(filter.tree.bytes, filter.tree.start(i)) {
+        Node::Call(called) => named_in_small(called.name(filter.tree.bytes)),
         Node::Binary(operator, _) => measured_in_small(filter, operator, i + 1),
         Node::And(_) | Node::Plain(_) => false,
     }
@@ -53,8 +53,8 @@ fn ours_in_small(filter: Filter, i: usize) -> bool
 
 // Whether one of n expressions in a row would, the first of which has index i.
 pub fn some_of_ours(filter: Filter, i: usize, n: usize) -> bool
-    requires { RowAt filter.s.now filter.rec filter.rows.numbers.now filter.rows.next.now i n }
-    ensures { OfRow filter.entry.s.now filter.entry.rec filter.entry.rows.numbers.now filter.entry.rows.next.now i n
+    requires { RowAt filter.tree.bytes.now filter.rec filter.tree.nodes.now i n }
+    ensures { OfRow filter.entry.tree.bytes.now filter.entry.rec filter.entry.tree.nodes.now i n
         (λ records ts. result ≡ definitions.some_of_ours ts) }
 {
     let mut next = i;
@@ -62,7 +62,7 @@ pub fn some_of_ours(filter: Filter, i: usize, n: usize) -> bool
         if ours_in_small(filter, next) {
             return true;
         }
-        next = filter.rows.after(next);
+        next = filter.tree.after(next);
     }
     false
 }

@@ -19,6 +19,7 @@ use Rattle.expression.specs.declared.leaves.Node.TheVariants.{And, Binary, Call,
 use Rattle.expression.proofs.LeafLaws.{no-call}
 use mathlib.Core.Logic.{inl, inr}
 use Rattle.sedona_expr.specs.Parsed.{SidesOf}
+use Rattle.logical_filter.specs.Logicals.{BitIs}
 
 -- ---- the name of one leaf
 
@@ -59,6 +60,22 @@ unnamed e = ap (λ (n : List ℕ). mask spatial_names (n ∷ [])) (sym e)
 pub named-dwithin : {name : List ℕ} → name ≡ ascii "st_dwithin" → 1024 ≡ mask spatial_names (name ∷ [])
 unfolding mask spatial_names ascii same_name any
 named-dwithin e = ap (λ (n : List ℕ). mask spatial_names (n ∷ [])) (sym e)
+
+-- Only an operator and a function have one.
+pub other-bit : (c : Columns) (s : List ℕ) (at : ℕ) (t : Expr) (r : Node) → ((o first : ℕ) → r ≡ Binary o first → ⊥)
+    → ((k : Called) → r ≡ Call k → ⊥) → NodeIs c s at r t → BitIs 0 t
+unfolding leaf_name
+other-bit c s at t (And first) b n h = unnamed (ap leaf_name h.is)
+other-bit c s at t (Binary operator first) b n h = absurd (b operator first refl)
+other-bit c s at t (Call k) b n h = absurd (n k refl)
+other-bit c s at t (Plain head) b n h = unnamed (plain-name h.0)
+
+pub call-bit : {c : Columns} {s : List ℕ} {at bit : ℕ} {k : Called} {t : Expr} → CallIs c s at k t
+    → bit ≡ mask spatial_names (lower_case (part s k.name k.end) ∷ []) → BitIs bit t
+unfolding leaf_name
+call-bit b is =
+    is ∙ ap (λ (n : List ℕ). mask spatial_names (lower_case n ∷ [])) b.stands.spelling
+    ∙ ap (λ (e : Expr). mask spatial_names (leaf_name e ∷ [])) (sym b.is)
 
 module _ (operator : ℕ) (l r : Expr) where
   pub compares-nothing : comparison operator l r ≡ no_comparison → leaf_name (binary operator l r) ≡ []

@@ -8,7 +8,7 @@ use Rattle.terms.specs.declared.refusals.Refusal.{Refusal}
 use Rattle.logical_filter.specs.QuerySides.{query_side_is}
 use Rattle.logical_filter.specs.declared.call.Names.{Names}
 
--- Document 01's answer of the logical call for each case: mask, count and side, or the number of the refusal.
+-- The definitions' answer of the logical call for each case: mask, count and side, or the number of the refusal.
 abbrev pub names_of : Result Names Refusal → basics.Result definitions.LogicalAnswer
 names_of (Ok names) = ok (record { mask = names.found.mask; names = names.found.names; side = query_side_is names.side })
 names_of (Err why) = refused (number_of why)

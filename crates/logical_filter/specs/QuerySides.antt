@@ -1,14 +1,14 @@
 -- What the answers about a KNN query side say.
-use Rattle.std.specs.Prelude.{ℕ, ◌+◌, ◌<◌, ◌≡◌, List, [], ◌∷◌, length, get_or, Some, None}
+use Rattle.std.specs.Prelude.{ℕ, ◌≡◌, List, [], ◌∷◌, Some, None}
 use Rattle.std.specs.Prelude as prelude
 use Rattle.std.proofs.Math.Option.{Option, none, some}
 use Rattle.definitions.specs.Words.Basics.{all}
-use Rattle.definitions.specs.Words.Expression.{Side, left, right, no_side, Expr, Exprs, count}
+use Rattle.definitions.specs.Words.Expression.{Side, left, right, no_side, Expr, Exprs}
 use Rattle.definitions.specs.Bytes.Decode.{Columns}
-use Rattle.definitions.specs.Bytes.Good.{nodes_all}
 use Rattle.definitions.specs.Filter.Names.{in_left, in_right, knn_arguments}
-use Rattle.expression.specs.Nodes.{Row}
-use Rattle.node_rows.specs.Rows.{TabledAll}
+use Rattle.expression.specs.Nodes.{children_of, Stands}
+use Rattle.node_table.specs.declared.NodeRecord.{NodeRecord as Lent}
+use Rattle.filter_tree.specs.Trees.{Noded}
 use Rattle.logical_filter.specs.declared.knn_query_side.Schemas.{Schemas}
 use Rattle.logical_filter.specs.declared.knn_query_side.KNNJoinQuerySide.{KNNJoinQuerySide}
 use Rattle.logical_filter.specs.declared.knn_query_side.KNNJoinQuerySide.TheVariants as side
@@ -23,28 +23,26 @@ unfoldable pub first_knn : List Expr → Option Exprs
 first_knn [] = none
 first_knn (e ∷ es) = or_else (knn_arguments e) (first_knn es)
 
--- A call has index i: its arguments stand in a row and have the indexes after it.
-pub record KnnAt (s numbers next : List ℕ) (i : ℕ) (q : Option Exprs) : Type 0 where
-  pub arguments : Exprs
-  pub is : q ≡ some arguments
+-- A call stands where the node of index i does, and these are its arguments.
+pub record KnnAt (s : List ℕ) (nodes : List Lent) (i : ℕ) (q : Option Exprs) : Type 0 where
   pub columns : Columns
   pub place : ℕ
-  pub row : Row columns s place (count arguments) arguments
-  pub tabled : TabledAll numbers next place (i + 1) arguments
-  pub after : get_or next i 0 ≡ i + 1 + nodes_all arguments
-  pub within : i < length next
+  pub call : Expr
+  pub is : q ≡ some (children_of call)
+  pub stands : Stands columns s place call
+  pub noded : Noded nodes place i call
 
 -- The index of a call that was found, or there is none.
-abbrev pub KnnIs : (s numbers next : List ℕ) → prelude.Option ℕ → Option Exprs → Type 0
-KnnIs s numbers next (Some i) q = KnnAt s numbers next i q
-KnnIs s numbers next None q = q ≡ none
+abbrev pub KnnIs : (s : List ℕ) (nodes : List Lent) → prelude.Option ℕ → Option Exprs → Type 0
+KnnIs s nodes (Some i) q = KnnAt s nodes i q
+KnnIs s nodes None q = q ≡ none
 
 -- Some arguments are those of the call, if there is one; what is claimed of them.
-abbrev pub Knn : (s numbers next : List ℕ) → prelude.Option ℕ → Type 0
-Knn s numbers next knn = (q : Option Exprs) × KnnIs s numbers next knn q
+abbrev pub Knn : (s : List ℕ) (nodes : List Lent) → prelude.Option ℕ → Type 0
+Knn s nodes knn = (q : Option Exprs) × KnnIs s nodes knn q
 
-abbrev pub OfKnn : (s numbers next : List ℕ) → prelude.Option ℕ → (Option Exprs → Type 0) → Type 0
-OfKnn s numbers next knn P = (q : Option Exprs) → KnnIs s numbers next knn q → P q
+abbrev pub OfKnn : (s : List ℕ) (nodes : List Lent) → prelude.Option ℕ → (Option Exprs → Type 0) → Type 0
+OfKnn s nodes knn P = (q : Option Exprs) → KnnIs s nodes knn q → P q
 
 -- Which schemas have all columns with these bits.
 pub record SchemasAre (bits : List ℕ) (r : Schemas) : Type 0 where

@@ -7,9 +7,10 @@ ghost use Rattle.logical_filter.specs.Found.{names_of};
 
 use super::knn_query_side::{KNNJoinQuerySide, find_knn_query_side};
 use super::predicate_names::{PredicateNames, collect_spatial_predicate_names};
+use filter_tree::lengths::{MIDDLE_BYTES, MIDDLE_NODES, MOST_NODES, SHORT_BYTES, SHORT_NODES};
+use filter_tree::tree::Tree;
 use frame_reader::frames::logical_frame;
-use node_rows::lengths::{MIDDLE_BYTES, MIDDLE_NODES, MOST_NODES, SHORT_BYTES, SHORT_NODES};
-use node_rows::rows::Rows;
+use node_table::{NO_RECORD, NodeRecord};
 use terms::refusals::Refusal;
 
 // The names of a logical filter and its KNN query side.
@@ -19,36 +20,34 @@ pub struct Names {
     pub side: KNNJoinQuerySide,
 }
 
-// The names and the query side of a frame whose nodes go into the rows.
-fn logical_in(numbers: &mut [u32], indexes: &mut [u16], frame: &[u8]) -> Result<Names, Refusal>
-    requires { Roomy frame.now numbers.old indexes.old }
+// The names and the query side of a frame whose nodes go into the row.
+fn logical_in(row: &mut [NodeRecord], frame: &[u8]) -> Result<Names, Refusal>
+    requires { Roomy frame.now row.old }
     ensures { names_of result ≡ definitions.logical frame.now }
 {
-    logical_frame(numbers, indexes, frame)?;
-    let rows = Rows {
-        numbers,
-        next: indexes,
+    let read = logical_frame(row, frame)?;
+    let tree = Tree {
+        bytes: frame,
+        nodes: &row[..read.nodes],
     };
-    let all = collect_spatial_predicate_names(frame, rows);
+    let all = collect_spatial_predicate_names(tree);
     let found = PredicateNames {
         mask: all.mask,
         names: all.mask.count_ones(),
     };
-    let side = find_knn_query_side(frame, rows, all.knn);
+    let side = find_knn_query_side(tree, all.knn);
     Ok(Names { found, side })
 }
 
-// The same by rows of N places on the stack, of which the frame's nodes need no more.
+// The same by a row of N places on the stack, of which the frame's nodes need no more.
 fn logical_by<const N: usize>(frame: &[u8]) -> Result<Names, Refusal>
     requires { (min most_nodes (length frame.now / 3) ≤ N) × (N ≤ most_nodes) }
     ensures { names_of result ≡ definitions.logical frame.now }
 {
-    let mut numbers = [0u32; N];
-    let mut indexes = [0u16; N];
-    logical_in(&mut numbers, &mut indexes, frame)
+    logical_in(&mut [NO_RECORD; N], frame)
 }
 
-// Reads a logical frame; there is no plan and nothing is written. Short rows are enough for a short frame.
+// Reads a logical frame; there is no plan and nothing is written. A short row is enough for a short frame.
 pub fn logical(frame: &[u8]) -> Result<Names, Refusal>
     ensures { names_of result ≡ definitions.logical frame.now }
 {

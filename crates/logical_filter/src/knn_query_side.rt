@@ -1,16 +1,13 @@
 // The query side of a logical filter's first KNN call. A port of `find_knn_query_side` of
 // rust/sedona-query-planner/src/spatial_expr_utils.rs; the case of letters is ignored.
-ghost use Rattle.std.specs.Prelude.{◌≡◌, ◌+◌};
+ghost use Rattle.std.specs.Prelude.{◌≡◌};
 ghost use Rattle.definitions.specs.Words.Expression.{no_side};
 ghost use Rattle.definitions.specs.Bytes.Encode.{side_number};
-ghost use Rattle.definitions.specs.Bytes.Good.{nodes};
 ghost use Rattle.definitions.specs.Filter.Names.{bits_of, query_side_from};
-ghost use Rattle.expression.specs.Nodes.{OfTree};
-ghost use Rattle.node_rows.specs.Numbers.{start_at};
-ghost use Rattle.frame_reader.specs.Arities.{Listed};
+ghost use Rattle.filter_tree.specs.Trees.{TreeNode, OfTreeNode};
 ghost use Rattle.logical_filter.specs.QuerySides.{Knn, OfKnn, SchemasAre, query_side_is};
 
-use node_rows::rows::Rows;
+use filter_tree::tree::Tree;
 
 // Whether all columns are in the left schema, and in the right one.
 #[derive(Clone, Copy)]
@@ -19,18 +16,15 @@ pub struct Schemas {
     pub right: bool,
 }
 
-// The schemas that have all columns of the expression whose nodes have the indexes from `first` up to `end`: those of kind 5.
-fn column_refs(s: &[u8], rows: Rows, first: usize, end: usize) -> Schemas
-    requires listed { Listed s.now rows.numbers.now rows.next.now first }
-    requires of_tree { OfTree s.now (start_at rows.numbers.now first) (λ t. end ≡ first + nodes t) }
-    ensures { OfTree s.now (start_at rows.entry.numbers.now first) (λ t. SchemasAre (bits_of t) result) }
+// The schemas that have all columns of the expression of an index.
+fn column_refs(tree: Tree, i: usize) -> Schemas
+    requires { TreeNode tree.bytes.now tree.nodes.now i }
+    ensures { OfTreeNode tree.entry.bytes.now tree.entry.nodes.now i
+        (λ t. SchemasAre (bits_of t) result) }
 {
     let mut bits: u8 = 3;
-    for i in first..end {
-        let number = rows.numbers[i] as usize;
-        if number / 536870912 == 5 {
-            bits &= s[number / 32768 % 16384 + 1];
-        }
+    for place in tree.fields(i) {
+        bits &= tree.bytes[place + 1];
     }
     Schemas {
         left: bits % 2 == 1,
@@ -38,8 +32,8 @@ fn column_refs(s: &[u8], rows: Rows, first: usize, end: usize) -> Schemas
     }
 }
 
-// The side of a KNN join whose plan has the query geometry, by document 01's number. The Rust has this enum beside `JoinSide`, and what it
-// names has its names here.
+// The side of a KNN join whose plan has the query geometry, by its number in an answer. The Rust has this enum beside `JoinSide`, and what
+// it names has its names here.
 #[derive(Clone, Copy, Debug, PartialEq, Eq)]
 pub enum KNNJoinQuerySide {
     Left = 0,
@@ -47,7 +41,7 @@ pub enum KNNJoinQuerySide {
     None = 2,
 }
 
-// Document 01's number of a query side.
+// The number of a query side in an answer.
 impl From<KNNJoinQuerySide> for u8 {
     ghost from_gives = { λ side number. number ≡ side_number (query_side_is side) };
 
@@ -58,18 +52,19 @@ impl From<KNNJoinQuerySide> for u8 {
 }
 
 // The side of the first argument of the first `st_knn`, whose index is known, if its columns are of one schema.
-pub fn find_knn_query_side(s: &[u8], rows: Rows, knn: Option<usize>) -> KNNJoinQuerySide
-    requires { Knn s.now rows.numbers.now rows.next.now knn }
-    ensures { OfKnn s.now rows.entry.numbers.now rows.entry.next.now knn (λ q. query_side_is result ≡ query_side_from q no_side) }
+pub fn find_knn_query_side(tree: Tree, knn: Option<usize>) -> KNNJoinQuerySide
+    requires { Knn tree.bytes.now tree.nodes.now knn }
+    ensures { OfKnn tree.entry.bytes.now tree.entry.nodes.now knn
+        (λ q. query_side_is result ≡ query_side_from q no_side) }
 {
     let Some(i) = knn else {
         return KNNJoinQuerySide::None;
     };
     let first = i + 1;
-    if rows.after(i) == first {
+    if tree.after(i) == first {
         return KNNJoinQuerySide::None;
     }
-    let columns = column_refs(s, rows, first, rows.after(first));
+    let columns = column_refs(tree, first);
     match (columns.left, columns.right) {
         (true, false) => KNNJoinQuerySide::Left,
         (false, true) => KNNJoinQuerySide::Right,

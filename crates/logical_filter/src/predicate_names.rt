@@ -3,23 +3,21 @@
 ghost use Rattle.std.specs.Prelude.{◌≡◌, true, false, ◌∷◌, [], position, ◌≤◌, length};
 ghost use Rattle.std.specs.List.{list_any};
 ghost use Rattle.definitions.specs.Words.Basics.{ascii, same_name, any};
-ghost use Rattle.definitions.specs.Words.Expression.{binary, nil, cons};
-ghost use Rattle.definitions.specs.Filter.Names.{lower_case, spatial_names, function_name, leaf_name, mask};
-ghost use Rattle.expression.specs.Nodes.{Tree, OfTree};
-ghost use Rattle.expression.specs.Leaves.{Pair, OfPair};
-ghost use Rattle.node_rows.specs.Numbers.{start_at};
-ghost use Rattle.node_rows.specs.Rows.{TabledAll};
-ghost use Rattle.frame_reader.specs.Arities.{Listed};
-ghost use Rattle.logical_filter.specs.Logicals.{spellings, apart, with_leaf, NodeCollected, CollectedIs};
+ghost use Rattle.definitions.specs.Words.Expression.{binary};
+ghost use Rattle.definitions.specs.Filter.Names.{lower_case, spatial_names, function_name, mask};
+ghost use Rattle.expression.specs.Nodes.{Tree as TreeAt, OfTree};
+ghost use Rattle.filter_tree.specs.Trees.{TreeNode, OfTreeNode, TreePair, OfTreePair};
+ghost use Rattle.logical_filter.specs.Logicals.{spellings, apart, BitIs, with_node, CollectedIs};
 
 use expression::leaves::{Node, node_at};
 use expression::names::same_name_ignore_case;
-use node_rows::rows::Rows;
+use filter_tree::spine::Spine;
+use filter_tree::tree::Tree;
 use sedona_expr::utils::comparison;
 
 // Whether an expression measures a distance.
 pub fn is_distance_expr(s: &[u8], at: usize) -> bool
-    requires { Tree s.now at }
+    requires { TreeAt s.now at }
     ensures { OfTree s.now at (λ t. result ≡ same_name (function_name t) (ascii "st_distance")) }
 {
     let Node::Call(call) = node_at(s, at) else {
@@ -114,75 +112,61 @@ const ST_DWITHIN: u16 = 1024;
 const ST_KNN: u16 = 2048;
 
 // The bit of a comparison: that of `st_dwithin`, where the side that is read measures a distance. Its left side has index i.
-fn comparison_bit(s: &[u8], operator: u8, rows: Rows, i: usize) -> u16
-    requires pair { Pair s.now (start_at rows.numbers.now i) }
-    requires of_pair { OfPair s.now (start_at rows.numbers.now i)
-        (λ c l r. TabledAll rows.numbers.now rows.next.now (start_at rows.numbers.now i) i (cons l (cons r nil))) }
-    ensures { OfPair s.now (start_at rows.entry.numbers.now i)
-        (λ c l r. result ≡ mask spatial_names (leaf_name (binary operator l r) ∷ [])) }
+fn comparison_bit(tree: Tree, operator: u8, i: usize) -> u16
+    requires { TreePair tree.bytes.now tree.nodes.now i }
+    ensures { OfTreePair tree.entry.bytes.now tree.entry.nodes.now i
+        (λ c l r. BitIs result (binary operator l r)) }
 {
-    match comparison(operator, i, rows.after(i)) {
-        Some(sides) if is_distance_expr(s, rows.start(sides.measured)) => ST_DWITHIN,
+    match comparison(operator, i, tree.after(i)) {
+        Some(sides) if is_distance_expr(tree.bytes, tree.start(sides.measured)) => ST_DWITHIN,
         _ => 0,
     }
 }
 
-// Names that were collected, the index of the first `st_knn` call, and the index to go on at.
+// The bit of the name of a node; an And has none.
+fn node_bit(tree: Tree, i: usize) -> u16
+    requires { TreeNode tree.bytes.now tree.nodes.now i }
+    ensures { OfTreeNode tree.entry.bytes.now tree.entry.nodes.now i (BitIs result) }
+{
+    match node_at(tree.bytes, tree.start(i)) {
+        Node::Binary(operator, _) => comparison_bit(tree, operator, i + 1),
+        Node::Call(call) => spatial_bit(call.name(tree.bytes)),
+        _ => 0,
+    }
+}
+
+// Names that were collected, and the index of the first `st_knn` call.
 #[derive(Clone, Copy)]
 pub struct CollectedNames {
     pub mask: u16,
     pub knn: Option<usize>,
-    pub next: usize,
 }
 
 impl CollectedNames {
-    // One AND-leaf more, of the index to go on at.
-    fn with(self, bit: u16, next: usize) -> CollectedNames
-        ensures { result ≡ with_leaf self bit next }
+    // One node more.
+    fn with(self, bit: u16, i: usize) -> CollectedNames
+        ensures { result ≡ with_node self bit i }
     {
         let knn = match self.knn {
-            None if bit == ST_KNN => Some(self.next),
+            None if bit == ST_KNN => Some(i),
             known => known,
         };
         CollectedNames {
             mask: self.mask | bit,
             knn,
-            next,
         }
     }
 }
 
-// The node of the index to go on at: an And leads to its left child, an AND-leaf to what comes after it.
-fn collect_node(s: &[u8], rows: Rows, before: CollectedNames) -> CollectedNames
-    requires { Listed s.now rows.numbers.now rows.next.now before.next }
-    ensures { OfTree s.now (start_at rows.entry.numbers.now before.next) (NodeCollected before result) }
+// The names of the AND-leaves of an expression that has the first records, and the first `st_knn` call among them.
+pub fn collect_spatial_predicate_names(tree: Tree) -> CollectedNames
+    requires { TreeNode tree.bytes.now tree.nodes.now 0 }
+    ensures { OfTreeNode tree.entry.bytes.now tree.entry.nodes.now 0
+        (CollectedIs tree.entry.bytes.now tree.entry.nodes.now result) }
 {
-    let i = before.next;
-    let next = rows.after(i);
-    match node_at(s, rows.start(i)) {
-        Node::And(_) => CollectedNames {
-            next: i + 1,
-            ..before
-        },
-        Node::Plain(_) => before.with(0, next),
-        Node::Binary(operator, _) => before.with(comparison_bit(s, operator, rows, i + 1), next),
-        Node::Call(call) => before.with(spatial_bit(call.name(s)), next),
-    }
-}
-
-// The names of the AND-leaves of an expression that has the first rows, and the first `st_knn` call among them.
-pub fn collect_spatial_predicate_names(s: &[u8], rows: Rows) -> CollectedNames
-    requires { Listed s.now rows.numbers.now rows.next.now 0 }
-    ensures { OfTree s.now (start_at rows.entry.numbers.now 0) (CollectedIs s.now rows.entry.numbers.now rows.entry.next.now result) }
-{
-    let end = rows.after(0);
-    let mut all = CollectedNames {
-        mask: 0,
-        knn: None,
-        next: 0,
-    };
-    while all.next < end {
-        all = collect_node(s, rows, all);
+    let mut all = CollectedNames { mask: 0, knn: None };
+    for index in Spine::of(tree, 0) {
+        all = all.with(node_bit(tree, index), index);
     }
     all
 }

@@ -20,9 +20,9 @@ use Rattle.definitions.specs.Filter.Settings.{Settings, good_settings}
 use Rattle.definitions.specs.Filter.Verdicts.{verdict_byte, verdict_under, verdicts_under, verdict_bytes, named_by, bill_number, explained, TakenLeaf}
 use Rattle.definitions.specs.Calls.Explain.{new_verdicts, finish_explain, explain}
 use Rattle.theorems.proofs.Pick.{leaves-nodes}
-use Rattle.expression.proofs.Placed.{fits}
-use Rattle.node_rows.specs.Rows.{Tabled}
-use Rattle.node_rows.proofs.RowLaws.{numbers-length}
+use Rattle.node_table.specs.declared.NodeRecord.{NodeRecord as Lent}
+use Rattle.filter_tree.specs.Trees.{Recorded}
+use Rattle.filter_tree.proofs.Children.{recorded-noded, recorded-within}
 use Rattle.frame_reader.specs.Frames.{PhysicalIs}
 use Rattle.frame_reader.specs.declared.frame_bodies.Frame.{Frame}
 use Rattle.frame_reader.proofs.Standing.{between-holds, expr-stands}
@@ -90,14 +90,17 @@ module _ (S : Settings) (good : good_settings S ≡ true) (s before : List ℕ) 
 
 -- ---- a frame that was read
 
-module _ (s : List ℕ) {f : Frame} {numbers next : List ℕ} (h : PhysicalIs s (Ok f) (frame_of s) (Tabled numbers next)) where
-  -- Its expression stands there, with its records, and has the first rows.
-  pub read-laid : Laid s f.records numbers next f.root 0 h.0.records h.0.expr
+module _ (s : List ℕ) (row : List Lent) {f : Frame} (h : PhysicalIs s (Ok f) (frame_of s) (Recorded row)) where
+  -- Its expression stands there, with the records of its columns, and has the first records of nodes.
+  pub read-laid : Laid s f.records (take f.nodes row) f.root 0 h.0.records h.0.expr
   read-laid = record {
     over = record { entries = between-holds h.1.records; tree = expr-stands h.1.expr };
-    tabled = h.3;
+    noded = recorded-noded row h.3 (omega (arith, h.1.sized));
   }
 
-  -- It has no more conjuncts than rows.
-  pub few-leaves : length (leaves h.0.expr) ≤ length numbers
-  few-leaves = omega (arith, leaves-nodes h.0.expr, fits h.3.numbered, numbers-length f.root h.0.expr)
+  pub read-within : f.nodes ≤ length row
+  read-within = omega (arith, h.1.sized, recorded-within row f.root 0 h.0.expr h.3)
+
+  -- It has no more conjuncts than nodes.
+  pub few-leaves : length (leaves h.0.expr) ≤ length row
+  few-leaves = omega (arith, leaves-nodes h.0.expr, recorded-within row f.root 0 h.0.expr h.3)

@@ -7,17 +7,15 @@ use mathlib.Core.Path.{◌≡◌, refl, sym, ap, ◌∙◌, subst}
 use mathlib.Core.Bool.{Bool, true, false, or-false}
 use mathlib.Core.List.{List, [], ◌∷◌}
 use mathlib.Core.Option.{Option, none, some}
-use lib.ListN.{length}
 use borrow.Author.Tests.{ne_eqb}
 use Rattle.definitions.specs.Words.Basics.{ascii, same_name, any}
-use Rattle.definitions.specs.Words.Expression.{Expr, column, literal, and, binary, call, other, field, Exprs, cons, count}
+use Rattle.definitions.specs.Words.Expression.{Expr, column, literal, and, binary, call, other, field, Exprs}
 use Rattle.definitions.specs.Words.Leaves.{Comparison, compares, no_comparison, comparison}
 use Rattle.definitions.specs.Bytes.Decode.{Columns}
 use Rattle.definitions.specs.Filter.Names.{lower_case, spatial_names, function_name, comparison_name, leaf_name, mask, knn_arguments}
-use Rattle.expression.specs.Nodes.{head_bytes, children_of}
-use Rattle.expression.proofs.Standing.{children-stand, first-stands}
-use Rattle.node_rows.proofs.RowLaws.{tabled-next, tabled-within, tabled-children, tabled-first, nodes-below}
-use Rattle.frame_reader.proofs.ByRows.{Left}
+use Rattle.expression.specs.Nodes.{children_of, Stands}
+use Rattle.node_table.specs.declared.NodeRecord.{NodeRecord as Lent}
+use Rattle.filter_tree.specs.Trees.{Noded}
 use Rattle.theorems.proofs.Requests.{same-name}
 use Rattle.logical_filter.specs.Logicals.{known}
 use Rattle.logical_filter.specs.QuerySides.{or_else, first_knn, KnnIs}
@@ -96,38 +94,31 @@ module _ (b : Bool) where
 
 -- ---- the index that is kept
 
-module _ {c : Columns} {s numbers next : List ℕ} {place i : ℕ} {t : Expr} {ts : Exprs} (h : Left c s numbers next place i (cons t ts)) where
+module _ {c : Columns} {s : List ℕ} {nodes : List Lent} {place i : ℕ} {t : Expr} (stands : Stands c s place t) (h : Noded nodes place i t) where
   this-leaf : (b : Bool) → eqb (mask spatial_names (leaf_name t ∷ [])) 2048 ≡ b
-      → KnnIs s numbers next (if b then Some i else None) (first_knn (t ∷ []))
+      → KnnIs s nodes (if b then Some i else None) (first_knn (t ∷ []))
   unfolding first_knn
-  this-leaf true e =
-      let own = tabled-first h.tabled in
-      let first : ℕ = place + length (head_bytes t) in
-      record {
-        arguments = children_of t;
-        is = or-none (knn_arguments t) ∙ leaf-knn true t e;
-        columns = c;
-        place = first;
-        row = children-stand (first-stands h.row) first (count (children_of t)) refl refl;
-        tabled = tabled-children own first (i + 1) refl refl;
-        after = tabled-next own ∙ omega (arith, nodes-below t);
-        within = (tabled-within own).1;
-      }
+  this-leaf true e = record {
+    columns = c;
+    place = place;
+    call = t;
+    is = or-none (knn_arguments t) ∙ leaf-knn true t e;
+    stands = stands;
+    noded = h;
+  }
   this-leaf false e = or-none (knn_arguments t) ∙ leaf-knn false t e
 
-  pub knn-kept : (knn : prelude.Option ℕ) (q : Option Exprs) → KnnIs s numbers next knn q
-      → KnnIs s numbers next (known knn (mask spatial_names (leaf_name t ∷ [])) i) (or_else q (first_knn (t ∷ [])))
+  pub knn-kept : (knn : prelude.Option ℕ) (q : Option Exprs) → KnnIs s nodes knn q
+      → KnnIs s nodes (known knn (mask spatial_names (leaf_name t ∷ [])) i) (or_else q (first_knn (t ∷ [])))
   knn-kept (Some j) q k = record {
-    arguments = k.arguments;
-    is = ap (λ (q : Option Exprs). or_else q (first_knn (t ∷ []))) k.is;
     columns = k.columns;
     place = k.place;
-    row = k.row;
-    tabled = k.tabled;
-    after = k.after;
-    within = k.within;
+    call = k.call;
+    is = ap (λ (q : Option Exprs). or_else q (first_knn (t ∷ []))) k.is;
+    stands = k.stands;
+    noded = k.noded;
   }
   knn-kept None q k = subst
-      (λ (q : Option Exprs). KnnIs s numbers next (if eqb (mask spatial_names (leaf_name t ∷ [])) 2048 then Some i else None)
+      (λ (q : Option Exprs). KnnIs s nodes (if eqb (mask spatial_names (leaf_name t ∷ [])) 2048 then Some i else None)
       (or_else q (first_knn (t ∷ []))))
       (sym k) (this-leaf (eqb (mask spatial_names (leaf_name t ∷ [])) 2048) refl)

@@ -1,5 +1,8 @@
 -- The logical call's answer, put together from what was found.
-use Prim.Native.Nat.{ℕ}
+use Rattle.std.specs.Prelude.{Ok}
+use Prim.Native.Nat.{ℕ, ◌≤◌}
+use native.Mathlib.Omega.{arith}
+use lib.ListN.{length, take}
 use mathlib.Core.Path.{◌≡◌, sym, ap, ◌∙◌}
 use mathlib.Core.List.{List, map}
 use lib.Count.{ones}
@@ -10,6 +13,11 @@ use Rattle.definitions.specs.Bytes.Plans.{logical_of}
 use Rattle.definitions.specs.Calls.Logical.{LogicalAnswer, logical_answer, logical}
 use Rattle.definitions.specs.Filter.Names.{spatial_names, leaf_name, mask, query_side_from}
 use Rattle.definitions.proofs.Rows.Names.{names-ones}
+use Rattle.node_table.specs.declared.NodeRecord.{NodeRecord as Lent}
+use Rattle.filter_tree.specs.Trees.{Noded, Recorded}
+use Rattle.filter_tree.proofs.Children.{recorded-noded, recorded-within}
+use Rattle.frame_reader.specs.Frames.{LogicalIs}
+use Rattle.frame_reader.specs.declared.frames.LogicalFrame.{LogicalFrame}
 use Rattle.logical_filter.specs.QuerySides.{first_knn}
 use Rattle.logical_filter.proofs.QueryWalk.{by_first}
 
@@ -30,3 +38,11 @@ pub logical-finds : (s : List ℕ) (e : Expr) → logical_of s ≡ ok e → (bit
 unfolding logical
 logical-finds s e is bits side names at =
     ap {B = Result LogicalAnswer} ok (answer-is e bits side names at) ∙ sym (ap (map_result logical_answer) is)
+
+-- A frame that was read: its expression has the row's first records.
+module _ (s : List ℕ) (row : List Lent) {f : LogicalFrame} (h : LogicalIs s (Ok f) (logical_of s) (Recorded row)) where
+  pub read-within : f.nodes ≤ length row
+  read-within = omega (arith, h.3, recorded-within row f.root 0 h.0 h.4)
+
+  pub read-noded : Noded (take f.nodes row) f.root 0 h.0
+  read-noded = recorded-noded row h.4 (omega (arith, h.3))

@@ -1,34 +1,26 @@
--- `two_geometries`: the columns of both are in the rows, and their flags say what is asked of their sides.
+-- `two_geometries`: the flags of the columns of each say what is asked of their sides.
 use Rattle.definitions.specs.Filter.Verdicts.{sides_of}
-use Rattle.leaf_verdicts.proofs.LaidLaws.{two-tabled, two-within, first-argument, second-argument}
+use Rattle.leaf_verdicts.proofs.LaidLaws.{index-node, argued, laid-argument, first-laid, second-laid, two-first, two-second}
 use Rattle.leaf_verdicts.proofs.ColumnLaws.{geometries-told}
 use Rattle.leaf_verdicts.proofs.geometries.two_geometries.Goals as goal
 
-pub two-two-requires : goal.two-two-requires
-two-two-requires c = two-tabled c.requires
+pub after-second-requires : goal.after-second-requires
+after-second-requires c = index-node (two-first c.requires)
 
-pub after-middle-requires : goal.after-middle-requires
-after-middle-requires c = two-within c.requires
+pub seen_sides-of_first-requires : goal.seen_sides-of_first-requires
+seen_sides-of_first-requires c = argued (two-first c.requires)
 
-pub seen_by_rows-first-requires : goal.seen_by_rows-first-requires
-seen_by_rows-first-requires c =
-    let p = c.requires in
-    (p.2, p.3, first-argument p.6 _ c.after-middle.ensures)
-
-pub seen_by_rows-second-requires : goal.seen_by_rows-second-requires
-seen_by_rows-second-requires c =
-    let p = c.requires in
-    (p.2, p.4, second-argument p.6 _ c.after-middle.ensures _ (c.two-two.ensures p.0 p.3 p.4 p.5 p.6.tabled).after)
+pub seen_sides-of_second-requires : goal.seen_sides-of_second-requires
+seen_sides-of_second-requires c = argued (two-second c.requires c.after-second.ensures)
 
 pub returns : goal.returns
 unfolding sides_of
 returns c =
     λ at n records a b more h.
-    let two = c.two-two.ensures at a b more h.tabled in
-    let first = c.seen_by_rows-first.ensures records a (first-argument h _ c.after-middle.ensures) in
-    let second = c.seen_by_rows-second.ensures records b (second-argument h _ c.after-middle.ensures _ two.after) in
+    let one = first-laid h in
+    let first = c.seen_sides-of_first.ensures records a (laid-argument one) in
+    let second = c.seen_sides-of_second.ensures records b (laid-argument (second-laid h c.after-second.ensures)) in
     record {
-      end = two.end;
-      after = two.after;
+      second = c.after-second.ensures at a one.noded;
       told = λ after. rw (c.seen_reason.ensures, first, second) (geometries-told _ _ after);
     }

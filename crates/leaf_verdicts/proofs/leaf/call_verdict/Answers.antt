@@ -19,7 +19,7 @@ use Rattle.leaf_verdicts.proofs.leaf.call_verdict.Goals.{After-left_out}
 -- Its verdict by its line, and by whether the settings leave that out.
 told : (c : After-left_out) {records : List Record} {name : List ℕ} {ts : Exprs}
     → let f = c.args.asked.filter in
-    CallLaid f.s.now f.rec f.rows.numbers.now f.rows.next.now c.args.called c.args.i records name ts
+    CallLaid f.tree.bytes.now f.rec f.tree.nodes.now c.args.called c.args.i records name ts
     → (out : Bool) → c.left_out.result ≡ out → (line : PriceLine) → c.line_named-line.result ≡ line
     → verdict_under (settings_of c.args.asked.settings) records (call name ts)
     ≡ (if out then kind_left_out else kept (settings_of c.args.asked.settings) records (call name ts) (line_of line) ts)

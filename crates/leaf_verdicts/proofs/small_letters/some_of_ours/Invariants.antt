@@ -6,4 +6,4 @@ use Rattle.leaf_verdicts.proofs.small_letters.some_of_ours.Given as goal
 abbrev pub invariant-loop : goal.invariant-loop
 invariant-loop l =
     let f = l.filter in
-    Looking f.s.now f.rec f.rows.numbers.now f.rows.next.now l.i l.n (l.n - l.counter) l.next
+    Looking f.tree.bytes.now f.rec f.tree.nodes.now l.i l.n (l.n - l.counter) l.next

@@ -1,25 +1,25 @@
--- `column_refs`: the columns of the expression are the nodes of kind 5 of its row, and the schemas of each are seen.
+-- `column_refs`: with the schemas of the columns that are left all are seen.
 use native.Mathlib.Omega.{arith}
-use Rattle.logical_filter.proofs.QueryWalk.{joining-begins, joining-field, joining-past, joining-ends, field-fits}
+use Rattle.logical_filter.proofs.QueryWalk.{joining-begins, field-within, joining-next, joining-ends}
 use Rattle.logical_filter.proofs.knn_query_side.column_refs.Goals as goal
-use Rattle.logical_filter.proofs.knn_query_side.column_refs.Goals.{then-number-eq5, else-number-eq5}
 
-pub loop-i-init : goal.loop-i-init
-loop-i-init c = joining-begins c.requires.listed c.requires.of_tree
+pub loop-place-init : goal.loop-place-init
+loop-place-init c = λ d p t stands h.
+    rw c.into_iter-place-iterator.ensures.into_iter_gives (joining-begins (c.fields-place-items.ensures d p t stands h))
 
-pub bounds-s-number : goal.bounds-s-number
-bounds-s-number c =
-    let tree = c.requires.listed.0 in
-    field-fits (c.loop-i.invariant tree.0 tree.1 tree.2) c.loop-i-test.true c.if-number-eq5.true
-
-pub loop-i-preserved : goal.loop-i-preserved
-loop-i-preserved c =
-    λ d t h.
-    let inv = c.loop-i.invariant d t h in
-    elim c.if-number-eq5.branch [
-      | then-number-eq5 w ↦ rw w.bits-is (joining-field inv c.loop-i-test.true w.if-number-eq5.true)
-      | else-number-eq5 w ↦ rw w.bits-is (joining-past inv c.loop-i-test.true w.if-number-eq5.false)
-    ]
+pub loop-place-preserved : goal.loop-place-preserved
+loop-place-preserved c = λ d p t stands h.
+    joining-next (c.loop-place.invariant d p t stands h) c.in-Some.ensures.steps
 
 pub returns : goal.returns
-returns c = λ d t h. joining-ends (c.loop-i.invariant d t h) (omega arith)
+returns c = λ d p t stands h. joining-ends (c.loop-place.invariant d p t stands h) c.in-None.ensures.steps.0
+
+pub overflow_add-bits : goal.overflow_add-bits
+overflow_add-bits c =
+    let r = c.requires in
+    omega (arith, c.well_formed, field-within (c.loop-place.invariant r.0 r.1 r.2 r.3 r.4) c.in-Some.ensures.steps)
+
+pub bounds-tree-place : goal.bounds-tree-place
+bounds-tree-place c =
+    let r = c.requires in
+    field-within (c.loop-place.invariant r.0 r.1 r.2 r.3 r.4) c.in-Some.ensures.steps

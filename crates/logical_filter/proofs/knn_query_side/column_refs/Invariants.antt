@@ -1,10 +1,15 @@
--- `column_refs`: the columns of the expression are the nodes of kind 5 of its row, and the schemas of each are seen.
+-- `column_refs`: with the schemas of the columns that are left all are seen.
 use Rattle.definitions.specs.Filter.Names.{bits_of}
-use Rattle.expression.specs.Nodes.{OfTree}
-use Rattle.node_rows.specs.Numbers.{start_at}
+use Rattle.definitions.specs.Bytes.Decode.{Columns}
+use Rattle.definitions.specs.Words.Expression.{Expr}
+use Rattle.expression.specs.Nodes.{Stands}
+use Rattle.filter_tree.specs.Trees.{Noded}
+use Rattle.filter_tree.specs.Columns.{columns_left}
 use Rattle.logical_filter.proofs.QueryWalk.{Joining}
 use Rattle.logical_filter.proofs.knn_query_side.column_refs.Given as goal
+use Prim.Native.Nat.{ℕ}
 
-abbrev pub invariant-loop-i : goal.invariant-loop-i
-invariant-loop-i l =
-    OfTree l.s (start_at l.rows.numbers.now l.first) (λ t. Joining l.s l.rows.numbers.now l.end (bits_of t) l.i l.bits)
+abbrev pub invariant-loop-place : goal.invariant-loop-place
+invariant-loop-place l =
+    (c : Columns) (at : ℕ) (t : Expr) → Stands c l.tree.bytes.now at t → Noded l.tree.nodes.now at l.i t
+    → Joining c l.tree.bytes.now (bits_of t) (columns_left l.place-iterator) l.bits

@@ -1,37 +1,46 @@
 -- `find_knn_query_side`: a side has all columns of the call's first argument and the other side has not.
+use native.Mathlib.Omega.{arith}
 use mathlib.Core.Path.{◌≡◌, sym, ◌∙◌}
 use Rattle.definitions.specs.Words.Expression.{no_side}
 use Rattle.definitions.specs.Filter.Names.{query_side_from}
-use Rattle.node_rows.proofs.RowLaws.{tabled-within}
-use Rattle.logical_filter.specs.QuerySides.{OfKnn}
-use Rattle.logical_filter.proofs.QueryWalk.{side_by, no-knn, no-argument, first-argument, argument-side, indexed-listed, indexed-size}
+use Rattle.filter_tree.proofs.Scans.{noded-within}
+use Rattle.logical_filter.specs.QuerySides.{KnnAt, OfKnn}
+use Rattle.logical_filter.proofs.QueryWalk.{side_by, no-knn, no-argument, first-argument, argument-side}
 use Rattle.logical_filter.proofs.knn_query_side.find_knn_query_side.Goals as goal
-use Rattle.logical_filter.proofs.knn_query_side.find_knn_query_side.Goals.{After-column_refs-columns}
+use Rattle.logical_filter.proofs.knn_query_side.find_knn_query_side.Goals.{In-Some, After-column_refs-columns}
+
+-- The call of the index.
+call : (c : In-Some) → KnnAt c.args.tree.bytes.now c.args.tree.nodes.now c.in-Some.i c.requires.0
+call c = rw c.in-Some.is at c.requires.1
 
 -- The schemas of the first argument's columns decide.
 decided : (c : After-column_refs-columns)
     → let columns = c.column_refs-columns.result in
-    OfKnn c.args.s.now c.args.rows.numbers.now c.args.rows.next.now c.args.knn
+    OfKnn c.args.tree.bytes.now c.args.tree.nodes.now c.args.knn
     (λ q. side_by columns.left columns.right ≡ query_side_from q no_side)
 decided c =
-    λ q k. argument-side (rw c.in-Some.is at k) (λ e. c.if-after-first.false (c.after.ensures ∙ e)) c.column_refs-columns.result
+    λ q k.
+    let call = rw c.in-Some.is at k in
+    argument-side call (λ e. c.if-after-first.false (c.after.ensures call.place call.call call.noded ∙ e)) c.column_refs-columns.result
     c.column_refs-columns.ensures
 
 pub returns-in_default : goal.returns-in_default
 returns-in_default c = λ q k. no-knn (rw c.in_default.is at k)
 
-pub returns-then-after-first : goal.returns-then-after-first
-returns-then-after-first c = λ q k. no-argument (rw c.in-Some.is at k) (sym c.after.ensures ∙ c.if-after-first.true)
+pub overflow_add-first : goal.overflow_add-first
+overflow_add-first c = omega (arith, c.well_formed, noded-within (call (goal.at.overflow_add-first c).In-Some).noded)
 
-pub after-requires-2 : goal.after-requires-2
-after-requires-2 c =
-    let first = first-argument (rw c.in-Some.is at c.requires.1) (λ e. c.if-after-first.false (c.after.ensures ∙ e)) in
-    (tabled-within first.1.tabled).1
+pub returns-then-after-first : goal.returns-then-after-first
+returns-then-after-first c =
+    λ q k.
+    let call = rw c.in-Some.is at k in
+    no-argument call (sym (c.after.ensures call.place call.call call.noded) ∙ c.if-after-first.true)
 
 pub column_refs-columns-requires : goal.column_refs-columns-requires
 column_refs-columns-requires c =
-    let first = first-argument (rw c.in-Some.is at c.requires.1) (λ e. c.if-after-first.false (c.after.ensures ∙ e)) in
-    record { listed = indexed-listed first.1; of_tree = indexed-size first.1 c.after-2.ensures }
+    let k = call (goal.at.column_refs-columns-requires c).In-Some in
+    let first = first-argument k (λ e. c.if-after-first.false (c.after.ensures k.place k.call k.noded ∙ e)) in
+    (k.columns, first.1.at, first.0, first.1.stands, first.1.noded)
 
 pub returns-in-true-false : goal.returns-in-true-false
 returns-in-true-false c =

@@ -1,34 +1,19 @@
--- `collect_spatial_predicate_names`: what is left is a row of expressions, whose leaves come after those that were seen.
-use native.Mathlib.Omega.{arith}
-use Rattle.node_rows.proofs.RowLaws.{tabled-within}
-use Rattle.logical_filter.proofs.LeafLoop.{collecting-begins, left-listed, goes_on, all-collected}
+-- `collect_spatial_predicate_names`: the leaves among the nodes that are left come after those that were seen.
+use Rattle.logical_filter.proofs.LeafLoop.{collecting-begins, collecting-there, collecting-next, all-collected}
 use Rattle.logical_filter.proofs.predicate_names.collect_spatial_predicate_names.Goals as goal
 
-pub after-end-requires : goal.after-end-requires
-after-end-requires c =
-    let tree = c.requires.0 in
-    (tabled-within (c.requires.1 tree.0 tree.1 tree.2)).1
+pub loop-index-init : goal.loop-index-init
+loop-index-init c = λ d p t stands h.
+    rw c.into_iter-index-iterator.ensures.into_iter_gives (collecting-begins (c.of-index-items.ensures d p t stands h))
 
-pub loop-all-init : goal.loop-all-init
-loop-all-init c = collecting-begins c.requires c.after-end.ensures
+pub node_bit-requires : goal.node_bit-requires
+node_bit-requires c =
+    let r = c.requires in collecting-there (c.loop-index.invariant r.0 r.1 r.2 r.3 r.4) c.in-Some.ensures.steps
 
-pub collect_node-all-requires : goal.collect_node-all-requires
-collect_node-all-requires c =
-    let tree = c.requires.0 in
-    left-listed (c.loop-all.invariant tree.0 tree.1 tree.2) c.loop-all-test.true
-
-pub loop-all-smaller : goal.loop-all-smaller
-loop-all-smaller c =
-    let tree = c.requires.0 in
-    omega (
-      arith,
-      c.loop-all-test.true,
-      (goes_on (c.loop-all.invariant tree.0 tree.1 tree.2) c.loop-all-test.true _ c.collect_node-all.ensures).0,
-    )
-
-pub loop-all-preserved : goal.loop-all-preserved
-loop-all-preserved c =
-    λ d t h. (goes_on (c.loop-all.invariant d t h) c.loop-all-test.true _ c.collect_node-all.ensures).1
+pub loop-index-preserved : goal.loop-index-preserved
+loop-index-preserved c = λ d p t stands h.
+    rw c.with-all.ensures
+    (collecting-next (c.loop-index.invariant d p t stands h) c.in-Some.ensures.steps _ c.node_bit.ensures)
 
 pub returns : goal.returns
-returns c = λ d t h. all-collected (c.loop-all.invariant d t h) c.loop-all-test.false
+returns c = λ d p t stands h. all-collected (c.loop-index.invariant d p t stands h) c.in-None.ensures.steps.0
