@@ -23,7 +23,7 @@ use Rattle.definitions.specs.Filter.Conjuncts.{positions_from, matching, is_othe
 use Rattle.definitions.specs.Calls.ExtractAll.{picks_bytes}
 use Rattle.theorems.proofs.ExchangeGood.{frame-length}
 use Rattle.theorems.proofs.Pick.{leaves-nodes}
-use Rattle.node_rows.proofs.NodeBytes.{nodes-by-bytes}
+use Rattle.filter_tree.proofs.NodeBytes.{nodes-by-bytes}
 use Rattle.expression.specs.Places.{Holds}
 use Rattle.expression.specs.Nodes.{Stands}
 use Rattle.byte_writer.specs.Written.{Wrote}
@@ -125,7 +125,7 @@ module _ {s : List ℕ} {f : Frame} {F : tree.Frame} (g : GoodAt s f F) where
   -- ---- the last remainder
 
   module _ {match : Matcher} {gone : List ℕ} {rounds : ℕ} (told : FlaggedLeaves match gone rounds F) where
-    left : Left s f.records f.columns f.root gone (goes_of match F) F.records F.expr
+    left : Left s f.records f.columns s f.root gone (goes_of match F) F.records F.expr
     left = record {
       frame = prunable;
       counted = told.counted;
@@ -146,7 +146,7 @@ module _ {s : List ℕ} {f : Frame} {F : tree.Frame} (g : GoodAt s f F) where
         (refl, is ∙ ap (λ (l : List ℕ). l ++ drop (length s) before) (take_all (length s) s (omega arith)))
 
     pub last_fits : {row out : List ℕ} → (rounds ≡ 0 → ⊥) → length s ≤ length row → length (last_left_bytes match F) ≤ length out
-        → LastFits s f.records f.columns f.root gone row out
+        → LastFits s f.records f.columns s f.root gone row out
     last_fits n long room = record {
       goes = goes_of match F;
       records = F.records;
@@ -157,7 +157,7 @@ module _ {s : List ℕ} {f : Frame} {F : tree.Frame} (g : GoodAt s f F) where
     }
 
     pub last-put : (before after : List ℕ) (r : ℕ) → (rounds ≡ 0 → ⊥)
-        → LastPut s f.records f.columns f.root gone before after r
+        → LastPut s f.records f.columns s f.root gone before after r
         → (r ≡ length (last_left_bytes match F)) × Wrote (last_left_bytes match F) before after
     last-put before after r n put =
         subst (λ (x : List ℕ). (r ≡ length x) × Wrote x before after) (sym (some_left n)) (put (goes_of match F) F.records F.expr left)

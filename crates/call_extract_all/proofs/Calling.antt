@@ -5,12 +5,13 @@ use native.Mathlib.Omega.{arith}
 use mathlib.Core.Path.{◌≡◌, sym, ap, ap₂, ◌∙◌}
 use mathlib.Core.Bool.{Bool, true, false}
 use mathlib.Core.List.{List, ◌++◌}
-use lib.ListN.{length, take, drop, replicate, length-replicate}
+use lib.ListN.{length, take, drop, replicate, length-replicate, length-take, length-map}
 use lib.Dec.{leb}
 use borrow.Author.Tests.{le-leb, lt-leb}
 use Rattle.definitions.specs.Words.Basics.{Result, ok, refused}
 use Rattle.definitions.specs.Words.Expression as tree
 use Rattle.definitions.specs.Bytes.Plans.{frame_of}
+use Rattle.definitions.specs.Bytes.NodeTable.{nodes_from}
 use Rattle.definitions.specs.Calls.Base.{written_over}
 use Rattle.definitions.specs.Bytes.Good.{AllBytes}
 use Rattle.definitions.specs.Filter.Extract.{Matcher}
@@ -21,9 +22,13 @@ use Rattle.definitions.specs.Filter.Settings.{Settings, good_settings, match_und
 use Rattle.definitions.specs.Meaning.Values.{FairUnder}
 use Rattle.definitions.specs.Calls.Settings.{extract_all_under}
 use Rattle.theorems.proofs.InverseFrame.{frame_back}
+use Rattle.theorems.proofs.NodeTables.{node-count}
 use Rattle.theorems.proofs.SettingsClaimed.{all-settings-hold, bad-settings-refused}
 use Rattle.expression.specs.Nodes.{OfTree}
-use Rattle.node_rows.specs.Rows.{Tabled}
+use Rattle.node_table.specs.declared.NodeRecord.{NodeRecord as Lent}
+use Rattle.node_table.specs.Records.{node_of, nodes_of}
+use Rattle.filter_tree.specs.Trees.{Noded, Recorded}
+use Rattle.filter_tree.proofs.Children.{recorded-noded}
 use Rattle.expression.proofs.OneTree.{of_tree}
 use Rattle.byte_writer.proofs.Written.{copied-wrote, from_start, standing}
 use Rattle.frame_reader.specs.Frames.{PhysicalIs}
@@ -141,12 +146,22 @@ clear-memory m n s long flags =
     let gone : length {A = ℕ} (replicate n 0) ≡ n = length-replicate n 0 in
     record { memory = record { long = omega arith; flags = omega arith }; holds = omega arith }
 
--- A frame that was read is good, and its nodes are in the rows.
-module _ (s : List ℕ) (bytes : AllBytes s) {f : Frame} {numbers next : List ℕ}
-    (h : PhysicalIs s (Ok f) (frame_of s) (Tabled numbers next)) where
+-- A frame that was read is good, and the first records of the row are those of its nodes.
+module _ (s : List ℕ) (bytes : AllBytes s) (row : List Lent) {f : Frame}
+    (h : PhysicalIs s (Ok f) (frame_of s) (Recorded row)) where
   pub good-read : GoodFrame s f
   good-read = let back = frame_back s h.0 bytes h.2 in
       record { frame = h.0; at = record { stands = h.1; bytes = back.0; good = back.1 }; is = h.2 }
 
-  pub rows-read : OfTree s f.root (Tabled numbers next f.root 0)
-  rows-read = of_tree (Tabled numbers next f.root 0) (expr-stands h.1.expr) h.3
+  pub tree-within : f.nodes ≤ length row
+  tree-within = omega (
+    arith,
+    ap length h.3,
+    length-take (length (nodes_from f.root h.0.expr)) (nodes_of row),
+    length-map row node_of,
+    node-count f.root h.0.expr,
+    h.1.sized,
+  )
+
+  pub tree-read : OfTree s f.root (Noded (take f.nodes row) f.root 0)
+  tree-read = of_tree (Noded (take f.nodes row) f.root 0) (expr-stands h.1.expr) (recorded-noded row h.3 (omega (arith, h.1.sized)))

@@ -1,17 +1,19 @@
-// The call extract all (request 14): all indexable conjuncts of a frame at once.
+// The call extract all: all indexable conjuncts of a frame at once.
 ghost use Rattle.std.specs.Prelude.{◌/◌, ◌≤◌, min, length};
 ghost use Rattle.definitions.specs.Words.Limits.{most_bytes, most_nodes};
 ghost use Rattle.definitions.specs.Calls.Settings as definitions;
 ghost use Rattle.terms.specs.Settings.{settings_of};
 ghost use Rattle.call_extract_all.specs.AllAnswers.{AllOutcomeIs};
 
-use super::conjuncts::{FrameInRows, Taken, put_all};
+use super::conjuncts::{Taken, put_all};
 use byte_writer::copies::copy_bytes;
-use frame_reader::frames::physical_frame_in;
-use node_rows::lengths::{
+use filter_tree::lengths::{
     LONG_BYTES, MIDDLE_BYTES, MIDDLE_NODES, MOST_BYTES, MOST_NODES, SHORT_BYTES, SHORT_NODES,
 };
-use node_rows::rows::Rows;
+use filter_tree::tree::Tree;
+use frame_reader::frame_bodies::FrameTree;
+use frame_reader::frames::physical_frame_in;
+use node_table::NO_RECORD;
 use terms::checked::Checked;
 use terms::refusals::Refusal;
 use terms::settings::Settings;
@@ -27,18 +29,13 @@ fn extract_all_by<const BYTES: usize, const NODES: usize>(
     requires nodes { (min most_nodes (length frame.now / 3) ≤ NODES) × (NODES ≤ most_nodes) }
     ensures { AllOutcomeIs (definitions.extract_all_under (settings_of settings.settings) frame.now out.old) out.new result }
 {
-    let mut numbers = [0u32; NODES];
-    let mut next = [0u16; NODES];
-    let parts = physical_frame_in(&mut numbers, &mut next, frame)?;
-    let rows = Rows {
-        numbers: &numbers,
-        next: &next,
+    let mut nodes = [NO_RECORD; NODES];
+    let parts = physical_frame_in(&mut nodes, frame)?;
+    let tree = Tree {
+        bytes: frame,
+        nodes: &nodes[..parts.nodes],
     };
-    let given = FrameInRows {
-        src: frame,
-        parts,
-        rows,
-    };
+    let given = FrameTree { parts, tree };
     let mut row = [0u8; BYTES];
     let mut gone = [0u8; NODES];
     if frame.len() <= out.len() {

@@ -2,28 +2,18 @@
 ghost use Rattle.definitions.specs.Filter.Settings.{match_under};
 ghost use Rattle.terms.specs.Settings.{settings_of};
 ghost use Rattle.expression.specs.Nodes.{OfTree};
-ghost use Rattle.node_rows.specs.Rows.{Tabled};
+ghost use Rattle.filter_tree.specs.Trees.{Noded};
 ghost use Rattle.call_extract_all.specs.Conjuncts.{LeftFits, LeftPut, AllFits, AllPut};
 
 use super::listing::{Listing, list_matches};
 use byte_writer::copies::copy_bytes;
-use frame_reader::frame_bodies::Frame;
+use frame_reader::frame_bodies::FrameTree;
 use leaf_matching::filter::Filter;
 use leaf_pick::first_match::Stop;
-use node_rows::rows::Rows;
 use plan_writer::column_tables::child_indexes;
 use plan_writer::records::Records;
 use remainder::last::put_last;
 use terms::checked::Checked;
-
-// A frame: its bytes, where its parts stand in them, and its nodes in rows. This call reads all three; merge has no rows, and extract has
-// the bytes in a plan.
-#[derive(Clone, Copy)]
-pub struct FrameInRows<'s, 'r> {
-    pub src: &'s [u8],
-    pub parts: Frame,
-    pub rows: Rows<'r>,
-}
 
 // How many leaves were taken, and how many bytes were written.
 #[derive(Clone, Copy)]
@@ -33,13 +23,14 @@ pub struct Taken {
 }
 
 // The last remainder: without a match the frame as it is, else what is left of it, pruned, or `00`; answers its length.
-fn put_left(out: &mut [u8], row: &mut [u8], given: FrameInRows, gone: &[u8], rounds: usize) -> usize
-    requires left_fits { LeftFits given.src.now given.parts gone.now rounds row.old out.old }
-    requires of_tree { OfTree given.src.now given.parts.root
-        (Tabled given.rows.numbers.now given.rows.next.now given.parts.root 0) }
-    ensures { LeftPut given.entry.src.now given.entry.parts gone.now rounds out.old out.new result }
+fn put_left(out: &mut [u8], row: &mut [u8], given: FrameTree, gone: &[u8], rounds: usize) -> usize
+    requires left_fits { LeftFits given.tree.bytes.now given.parts gone.now rounds row.old out.old }
+    requires of_tree { OfTree given.tree.bytes.now given.parts.root
+        (Noded given.tree.nodes.now given.parts.root 0) }
+    ensures { LeftPut given.entry.tree.bytes.now given.entry.parts gone.now rounds
+        out.old out.new result }
 {
-    let src = given.src;
+    let src = given.tree.bytes;
     if rounds == 0 {
         let n = src.len();
         copy_bytes(out, src, 0, n);
@@ -51,7 +42,7 @@ fn put_left(out: &mut [u8], row: &mut [u8], given: FrameInRows, gone: &[u8], rou
         rec: f.records,
         count: f.columns,
     };
-    put_last(out, row, records, f.root, given.rows, gone)
+    put_last(out, row, records, f.root, given.tree, gone)
 }
 
 // Writes all indexable conjuncts of a frame. The lent row first holds the matches that are not KNN, then what stays.
@@ -59,26 +50,27 @@ pub fn put_all(
     out: &mut [u8],
     row: &mut [u8],
     gone: &mut [u8],
-    given: FrameInRows,
+    given: FrameTree,
     settings: Checked,
 ) -> Taken
-    requires all_fits { AllFits (settings_of settings.settings) given.src.now given.parts row.old gone.old out.old }
-    requires of_tree { OfTree given.src.now given.parts.root
-        (Tabled given.rows.numbers.now given.rows.next.now given.parts.root 0) }
-    ensures { AllPut (match_under (settings_of settings.settings)) given.entry.src.now given.entry.parts out.old out.new result }
+    requires all_fits { AllFits (settings_of settings.settings) given.tree.bytes.now given.parts
+        row.old gone.old out.old }
+    requires of_tree { OfTree given.tree.bytes.now given.parts.root
+        (Noded given.tree.nodes.now given.parts.root 0) }
+    ensures { AllPut (match_under (settings_of settings.settings))
+        given.entry.tree.bytes.now given.entry.parts out.old out.new result }
 {
     let f = given.parts;
     let records = Records {
-        src: given.src,
+        src: given.tree.bytes,
         rec: f.records,
         count: f.columns,
     };
     let mut to = [0u16; 256];
     child_indexes(&mut to, records);
     let filter = Filter {
-        s: given.src,
+        tree: given.tree,
         rec: f.records,
-        rows: given.rows,
     };
     let listing = Listing {
         filter,

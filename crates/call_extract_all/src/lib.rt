@@ -1,4 +1,4 @@
-// The call that extracts all indexable conjuncts of a frame at once (request 14).
+// The call that extracts all indexable conjuncts of a frame at once.
 #![tactic(auto)]
 
 pub mod call;

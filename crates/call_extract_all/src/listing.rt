@@ -5,10 +5,11 @@ ghost use Rattle.definitions.specs.Filter.Settings.{match_under};
 ghost use Rattle.terms.specs.Settings.{settings_of};
 ghost use Rattle.expression.specs.Nodes.{OfTree, OfTreeIn};
 ghost use Rattle.expression.specs.Leaves.{NodeIs};
-ghost use Rattle.node_rows.specs.Rows.{Tabled};
+ghost use Rattle.filter_tree.specs.Trees.{Noded};
 ghost use Rattle.call_extract_all.specs.Listings.{ListFits, ListPut};
 
 use expression::leaves::{Node, node_at};
+use filter_tree::spine::Spine;
 use leaf_matching::filter::Filter;
 use leaf_pick::any_match::match_leaf;
 use leaf_pick::first_match::{Leaf, Stop};
@@ -42,17 +43,21 @@ fn list_leaf(
     listing: Listing,
     leaf: Leaf,
 ) -> Tally
-    requires list_fits { ListFits (match_under (settings_of listing.settings)) listing.filter.s.now listing.filter.rec listing.count
+    requires list_fits { ListFits (match_under (settings_of listing.settings))
+        listing.filter.tree.bytes.now listing.filter.rec listing.count
         leaf.stop.at leaf.stop.position listing.to.now knns.old others.old gone.old }
-    requires of_tree { OfTree listing.filter.s.now leaf.stop.at
-        (Tabled listing.filter.rows.numbers.now listing.filter.rows.next.now leaf.stop.at leaf.stop.index) }
-    requires of_tree_in { OfTreeIn listing.filter.s.now leaf.stop.at (λ c t. NodeIs c listing.filter.s.now leaf.stop.at leaf.node t) }
-    requires leaf_alone { OfTree listing.filter.s.now leaf.stop.at (λ t. leaves t ≡ t ∷ []) }
-    ensures { ListPut (match_under (settings_of listing.entry.settings)) listing.entry.filter.s.now listing.entry.filter.rec
-        listing.entry.count leaf.stop.at leaf.stop.position listing.entry.to.now
+    requires of_tree { OfTree listing.filter.tree.bytes.now leaf.stop.at
+        (Noded listing.filter.tree.nodes.now leaf.stop.at leaf.stop.index) }
+    requires of_tree_in { OfTreeIn listing.filter.tree.bytes.now leaf.stop.at
+        (λ c t. NodeIs c listing.filter.tree.bytes.now leaf.stop.at leaf.node t) }
+    requires leaf_alone { OfTree listing.filter.tree.bytes.now leaf.stop.at
+        (λ t. leaves t ≡ t ∷ []) }
+    ensures { ListPut (match_under (settings_of listing.entry.settings))
+        listing.entry.filter.tree.bytes.now listing.entry.filter.rec listing.entry.count
+        leaf.stop.at leaf.stop.position listing.entry.to.now
         knns.old knns.new others.old others.new gone.old gone.new result }
 {
-    let src = listing.filter.s;
+    let src = listing.filter.tree.bytes;
     let indexes = Some(listing.to);
     let position = leaf.stop.position;
     let mut tally = Tally {
@@ -75,8 +80,7 @@ fn list_leaf(
     tally
 }
 
-// All AND-leaves below a node, by a loop: the rows have the And nodes and AND-leaves in prefix order, so after an And comes its left side,
-// and after a leaf the node that comes after all below it. A turn writes behind what the turns before it wrote.
+// All AND-leaves below a node: a turn writes behind what the turns before it wrote.
 pub fn list_matches(
     knns: &mut [u8],
     others: &mut [u8],
@@ -84,47 +88,45 @@ pub fn list_matches(
     listing: Listing,
     from: Stop,
 ) -> Tally
-    requires list_fits { ListFits (match_under (settings_of listing.settings)) listing.filter.s.now listing.filter.rec listing.count
+    requires list_fits { ListFits (match_under (settings_of listing.settings))
+        listing.filter.tree.bytes.now listing.filter.rec listing.count
         from.at from.position listing.to.now knns.old others.old gone.old }
-    requires of_tree { OfTree listing.filter.s.now from.at
-        (Tabled listing.filter.rows.numbers.now listing.filter.rows.next.now from.at from.index) }
-    ensures { ListPut (match_under (settings_of listing.entry.settings)) listing.entry.filter.s.now listing.entry.filter.rec
-        listing.entry.count from.at from.position listing.entry.to.now knns.old knns.new others.old others.new gone.old gone.new result }
+    requires of_tree { OfTree listing.filter.tree.bytes.now from.at
+        (Noded listing.filter.tree.nodes.now from.at from.index) }
+    ensures { ListPut (match_under (settings_of listing.entry.settings))
+        listing.entry.filter.tree.bytes.now listing.entry.filter.rec listing.entry.count
+        from.at from.position listing.entry.to.now
+        knns.old knns.new others.old others.new gone.old gone.new result }
 {
-    let rows = listing.filter.rows;
-    let last = rows.after(from.index);
-    let mut place = from.at;
-    let mut index = from.index;
+    let tree = listing.filter.tree;
     let mut tally = Tally {
         position: from.position,
         knn: 0,
         other: 0,
         rounds: 0,
     };
-    while index < last {
-        let node = node_at(listing.filter.s, place);
-        if let Node::And(left) = node {
-            place = left;
-            index += 1;
-        } else {
-            let stop = Stop {
-                at: place,
-                index,
-                position: tally.position,
-            };
-            let leaf = Leaf { stop, node };
-            let k = tally.knn;
-            let o = tally.other;
-            let one = list_leaf(&mut knns[k..], &mut others[o..], gone, listing, leaf);
-            tally = Tally {
-                position: one.position,
-                knn: k + one.knn,
-                other: o + one.other,
-                rounds: tally.rounds + one.rounds,
-            };
-            place = rows.end(index);
-            index = rows.after(index);
+    for index in Spine::of(tree, from.index) {
+        let at = tree.start(index);
+        let node = node_at(tree.bytes, at);
+        if let Node::And(_) = node {
+            continue;
         }
+        let position = tally.position;
+        let stop = Stop {
+            at,
+            index,
+            position,
+        };
+        let leaf = Leaf { stop, node };
+        let k = tally.knn;
+        let o = tally.other;
+        let one = list_leaf(&mut knns[k..], &mut others[o..], gone, listing, leaf);
+        tally = Tally {
+            position: one.position,
+            knn: k + one.knn,
+            other: o + one.other,
+            rounds: tally.rounds + one.rounds,
+        };
     }
     tally
 }

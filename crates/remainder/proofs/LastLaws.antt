@@ -51,8 +51,8 @@ zeros-room n = simp length-replicate (omega arith)
 
 -- ---- the frame, for `put_rest`
 
-module _ {s : List ℕ} {rec count at : ℕ} {gone : List ℕ} {goes : Expr → Bool} {records : List Record} {t : Expr}
-    (left : Left s rec count at gone goes records t) where
+module _ {s from : List ℕ} {rec count at : ℕ} {gone : List ℕ} {goes : Expr → Bool} {records : List Record} {t : Expr}
+    (left : Left s rec count from at gone goes records t) where
   -- What it left.
   module _ {before rest : List ℕ} {r : Stays} (put : RestPut (length before) (length gone) gone before rest r t)
       (same : length rest ≡ length before) where

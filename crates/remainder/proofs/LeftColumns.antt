@@ -18,7 +18,7 @@ use Rattle.theorems.proofs.Columns.{all_both}
 use Rattle.expression.specs.Nodes.{left_of, right_of, Stands}
 use Rattle.expression.specs.declared.cuts.Cut.{Cut}
 use Rattle.expression.proofs.Standing.{first-stands}
-use Rattle.node_rows.proofs.ColumnRows.{columns_at, index_in, columns-read, columns-within, Moves, columns-moved, and-row, second}
+use Rattle.filter_tree.proofs.ColumnPlaces.{columns_at, index_in, columns-read, columns-within, Moves, columns-moved, and-row, second}
 use Rattle.remainder.specs.Around.{outside, moved}
 use Rattle.remainder.proofs.CutLaws.{LeftOf, first_goes, second_goes, in_first, in_second, left-spans, left-size}
 

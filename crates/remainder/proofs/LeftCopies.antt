@@ -1,10 +1,10 @@
--- The loops over the row mark and renumber the columns of what is left, and the three copies write its bytes.
+-- The loops over the columns mark and renumber the columns of what is left, and the three copies write its bytes.
 mod PatchLaws
 use Rattle.std.specs.Prelude.{if◌then◌else◌, fold}
-use Prim.Native.Nat.{ℕ, ◌+◌, ◌/◌, ◌≤◌, ◌<◌}
+use Prim.Native.Nat.{ℕ, ◌+◌, ◌≤◌, ◌<◌}
 use native.Mathlib.Omega.{arith}
 use mathlib.Core.Path.{◌≡◌, refl, sym, ap, ap₂, ◌∙◌, subst}
-use mathlib.Core.Bool.{Bool, true}
+use mathlib.Core.Bool.{Bool, true, false}
 use mathlib.Core.List.{List, [], ◌∷◌, ◌++◌, map, append_assoc}
 use lib.ListN.{length, get_or, set, take, drop, length-append}
 use lib.Seq.{drop-drop, drop-append_seam}
@@ -22,9 +22,11 @@ use Rattle.expression.proofs.Placed.{fits, front, back}
 use Rattle.byte_writer.specs.Written.{Wrote, WroteAt}
 use Rattle.byte_writer.specs.Writing.{Room, PutsAt, same}
 use Rattle.byte_writer.proofs.Written.{chain, to_start}
-use Rattle.node_rows.specs.Numbers.{start_at, end_at}
-use Rattle.node_rows.proofs.RowLaws.{tabled_start, tabled-end, tabled-next, tabled-within}
-use Rattle.node_rows.proofs.ColumnRows.{columns_at, index_in, each-column, column-index, columns-within, Looping, loop-begins, loop-after}
+use Rattle.filter_tree.proofs.ColumnPlaces.{columns_at, index_in, each-column, column-index, columns-within}
+use Rattle.node_table.specs.declared.NodeRecord.{NodeRecord as Lent}
+use Rattle.filter_tree.specs.Trees.{Node, OfNode}
+use Rattle.filter_tree.specs.Columns.{OfColumns}
+use Rattle.filter_tree.proofs.Scans.{places-are}
 use Rattle.plan_writer.specs.Copies.{copy_of}
 use Rattle.plan_writer.proofs.Fields.{column-size}
 use Rattle.remainder.specs.Around.{outside, moved, Movable, LeftAt}
@@ -37,20 +39,21 @@ use Rattle.remainder.proofs.LeftCopies.PatchLaws.{put_indexes, renumbered}
 
 -- ---- what is known of what is left
 
-module _ {n : ℕ} {s numbers next : List ℕ} {cut : Cut} {at : ℕ} {t e : Expr} (h : LeftAt (index_below n) s numbers next cut at t e) where
+module _ {n : ℕ} {s : List ℕ} {nodes : List Lent} {cut : Cut} {at : ℕ} {t e : Expr}
+    (h : LeftAt (index_below n) s nodes cut at t e) where
   by-leaf : LeftOf cut at t e
   by-leaf = left-of h.cutting h.left
 
   columns : LeftColumns cut s at at 0 t e
   columns = left-columns at by-leaf 0 (omega arith) h.stands
 
-  pub first-index : (0 < length numbers) × (0 < length next)
-  first-index = tabled-within h.tabled
+  pub first-node : Node nodes 0
+  first-node = (at, t, h.noded)
 
-  pub cut-short : cut.parent + 2 ≤ 16384
+  pub cut-short : cut.parent + 2 ≤ length s
   cut-short =
       let spans = left-spans by-leaf in
-      omega (arith, spans.leaf, spans.some, spans.end, h.tabled.short)
+      omega (arith, spans.leaf, spans.some, spans.end, fits h.stands.bytes)
 
   -- A column's five bytes stand in s, and its index is below n.
   pub column-places : All (λ p. (p + 5 ≤ length s) × (index_in s p < n)) (columns_at at t)
@@ -59,32 +62,50 @@ module _ {n : ℕ} {s numbers next : List ℕ} {cut : Cut} {at : ℕ} {t e : Exp
     omega (arith, column-index i g stands, ltb-true i n stands.in_range.0),
   )) at t h.stands
 
-  pub left-movable : (root place : ℕ) → root ≡ start_at numbers 0 → root ≤ place → outside cut place ≡ true → Movable cut root place
+  pub left-movable : (root place : ℕ) → OfNode nodes 0 (λ at t. root ≡ at) → root ≤ place → outside cut place ≡ true → Movable cut root place
   left-movable root place starts low out =
       let spans = left-spans by-leaf in
       record {
-        parent = omega (arith, spans.parent, starts, tabled_start h.tabled);
+        parent = omega (arith, spans.parent, starts at t h.noded);
         leaf = spans.leaf;
         end = spans.some;
         low = low;
         high = λ at-leaf. not-in-leaf cut out at-leaf;
       }
 
--- ---- a loop over the row that changes a value at each column outside the leaf
+-- ---- a loop over columns that changes a value at each one outside the leaf
+
+-- Something holds of each place that is left, and what the loop makes of the value at those places is the goal.
+pub record Changing {A : Type 0} (P : ℕ → Type 0) (f : A → ℕ → A) (goal : A) (left : List ℕ) (now : A) : Type 0 where
+  pub each : All P left
+  pub rest : fold f now left ≡ goal
+
+module _ {A : Type 0} {P : ℕ → Type 0} {f : A → ℕ → A} {goal now : A} {left : List ℕ} (inv : Changing P f goal left now) where
+  pub change-ends : left ≡ [] → now ≡ goal
+  change-ends is = sym (ap (fold f now) is) ∙ inv.rest
+
+  module _ {place : ℕ} {more : List ℕ} (is : left ≡ place ∷ more) where
+    pub change-here : P place
+    change-here = (subst (All P) is inv.each).0
+
+    pub change-goes-on : (after : A) → after ≡ f now place → Changing P f goal more after
+    change-goes-on after told = record {
+      each = (subst (All P) is inv.each).1;
+      rest = ap (λ (a : A). fold f a more) told ∙ sym (ap (fold f now) is) ∙ inv.rest;
+    }
 
 abbrev pub outside_only : {A : Type 0} → Cut → (A → ℕ → A) → A → (place : ℕ) → A
 outside_only cut f a place = if outside cut place then f a place else a
 
-module _ {A : Type 0} {P : ℕ → Type 0} (cut : Cut) (f : A → ℕ → A) {numbers : List ℕ} {count i : ℕ} {goal now : A}
-    (inv : Looping P (outside_only cut f) numbers count goal i now) (lt : i < count) (small : get_or numbers i 0 < 536870912) where
-  -- The test was made, and the value is the one that it asks for.
-  pub loop-tested : (out : Bool) → out ≡ outside cut (get_or numbers i 0 / 32768)
-      → (after : A) → after ≡ (if out then f now (get_or numbers i 0 / 32768) else now)
-      → Looping P (outside_only cut f) numbers count goal (i + 1) after
-  loop-tested out tested after is =
-      let place : ℕ = get_or numbers i 0 / 32768 in
-      let step : outside_only cut f now place ≡ after = ap (λ (b : Bool). if b then f now place else now) (sym tested) ∙ sym is in
-      subst (Looping P (outside_only cut f) numbers count goal (i + 1)) step (loop-after inv lt small)
+-- A place outside the leaf changes the value, one in it does not.
+module _ {A : Type 0} {P : ℕ → Type 0} (cut : Cut) (f : A → ℕ → A) {goal now : A} {left more : List ℕ} {place : ℕ}
+    (inv : Changing P (outside_only cut f) goal left now) (is : left ≡ place ∷ more) where
+  pub change-outside : true ≡ outside cut place → (after : A) → after ≡ f now place → Changing P (outside_only cut f) goal more after
+  change-outside told after same =
+      change-goes-on inv is after (same ∙ ap (λ (b : Bool). if b then f now place else now) told)
+
+  pub change-inside : false ≡ outside cut place → Changing P (outside_only cut f) goal more now
+  change-inside told = change-goes-on inv is now (ap (λ (b : Bool). if b then f now place else now) told)
 
 -- ---- marks
 
@@ -95,9 +116,9 @@ mark_column s flags place = set flags (index_in s place) true
 abbrev pub MarkPlace : (s : List ℕ) (n place : ℕ) → Type 0
 MarkPlace s n place = (place + 5 ≤ length s) × (index_in s place < n)
 
-abbrev pub Marking : (s numbers : List ℕ) → Cut → (count n : ℕ) (before : List Bool) (i : ℕ) (now : List Bool) → Expr → Type 0
-Marking s numbers cut count n before i now e =
-    Looping (MarkPlace s n) (outside_only cut (mark_column s)) numbers count (marked (columns_of e) before) i now
+abbrev pub Marking : (s : List ℕ) → Cut → (n : ℕ) (before : List Bool) (left : List ℕ) (now : List Bool) → Expr → Type 0
+Marking s cut n before left now e =
+    Changing (MarkPlace s n) (outside_only cut (mark_column s)) (marked (columns_of e) before) left now
 
 marks : (s : List ℕ) (flags : List Bool) (places : List ℕ)
     → fold (mark_column s) flags places ≡ marked (map (index_in s) places) flags
@@ -105,14 +126,21 @@ unfolding marked
 marks s flags [] = refl
 marks s flags (p ∷ places) = marks s (set flags (index_in s p) true) places
 
-pub marking-begins : {n : ℕ} {s numbers next : List ℕ} {cut : Cut} {at : ℕ} {t e : Expr}
-    → LeftAt (index_below n) s numbers next cut at t e → (count : ℕ) → count ≡ get_or next 0 0 → (before : List Bool)
-    → Marking s numbers cut count n before 0 before e
-marking-begins {n} {s} {numbers} {cut = cut} {at = at} {t = t} {e = e} h count is before =
-    subst (λ (goal : List Bool). Looping (MarkPlace s n) (outside_only cut (mark_column s)) numbers count goal 0 before)
-    (fold-kept (outside cut) (mark_column s) before (columns_at at t)
-    ∙ marks s before (keep (outside cut) (columns_at at t)) ∙ ap (λ (x : List ℕ). marked x before) (columns h).indexes)
-    (loop-begins (outside_only cut (mark_column s)) before h.tabled (is ∙ tabled-next h.tabled) (column-places h))
+-- The columns that are read are those of the expression.
+all-read : {n : ℕ} {s : List ℕ} {nodes : List Lent} {cut : Cut} {at : ℕ} {t e : Expr} → LeftAt (index_below n) s nodes cut at t e
+    → {left : List ℕ} → OfColumns s nodes 0 left → left ≡ columns_at at t
+all-read {n} {at = at} {t = t} h read = (read (index_below n) at t h.stands h.noded).places ∙ places-are at t
+
+pub marking-begins : {n : ℕ} {s : List ℕ} {nodes : List Lent} {cut : Cut} {at : ℕ} {t e : Expr}
+    → LeftAt (index_below n) s nodes cut at t e → {left : List ℕ} → OfColumns s nodes 0 left → (before : List Bool)
+    → Marking s cut n before left before e
+marking-begins {n} {s} {cut = cut} {at = at} {t = t} {e = e} h read before =
+    subst (λ (left : List ℕ). Marking s cut n before left before e) (sym (all-read h read)) (record {
+      each = column-places h;
+      rest =
+          fold-kept (outside cut) (mark_column s) before (columns_at at t)
+          ∙ marks s before (keep (outside cut) (columns_at at t)) ∙ ap (λ (x : List ℕ). marked x before) (columns h).indexes;
+    })
 
 -- ---- new indexes
 
@@ -134,10 +162,10 @@ pub record PatchPlace (s : List ℕ) (n : ℕ) (cut : Cut) (at long place : ℕ)
   pub low : at ≤ place
   pub room : outside cut place ≡ true → moved cut at place + 5 ≤ long
 
-abbrev pub Patching : (s numbers to : List ℕ) → Cut → (at count : ℕ) (before : List ℕ) (i : ℕ) (now : List ℕ) → Expr → Type 0
-Patching s numbers to cut at count before i now e =
-    Looping (PatchPlace s (length to) cut at (length before)) (outside_only cut (renumber s cut at to)) numbers count
-    (copy_of to e ++ drop (length (copy_of to e)) before) i now
+abbrev pub Patching : (s to : List ℕ) → Cut → (at : ℕ) (before left now : List ℕ) → Expr → Type 0
+Patching s to cut at before left now e =
+    Changing (PatchPlace s (length to) cut at (length before)) (outside_only cut (renumber s cut at to))
+    (copy_of to e ++ drop (length (copy_of to e)) before) left now
 
 patches : (s : List ℕ) (cut : Cut) (at : ℕ) (to out places : List ℕ)
     → fold (renumber s cut at to) out places
@@ -147,8 +175,8 @@ patches s cut at to out [] = refl
 patches s cut at to out (p ∷ places) =
     patches s cut at to (renumber s cut at to out p) places
 
-module _ (to : List ℕ) {s numbers next : List ℕ} {cut : Cut} {at : ℕ} {t e : Expr}
-    (h : LeftAt (index_below (length to)) s numbers next cut at t e) where
+module _ (to : List ℕ) {s : List ℕ} {nodes : List Lent} {cut : Cut} {at : ℕ} {t e : Expr}
+    (h : LeftAt (index_below (length to)) s nodes cut at t e) where
   pub copy-size : length (copy_of to e) ≡ length (expr_bytes e)
   copy-size = map-length (λ index. get_or to index 0) e
 
@@ -175,17 +203,14 @@ module _ (to : List ℕ) {s numbers next : List ℕ} {cut : Cut} {at : ℕ} {t e
       ∙ renumbered to e [] (drop (length (expr_bytes e)) before) 0 refl
       ∙ ap (λ (k : ℕ). copy_of to e ++ drop k before) (sym copy-size)
 
-  pub patching-begins : (root count : ℕ) → root ≡ start_at numbers 0 → count ≡ get_or next 0 0 → (before : List ℕ)
-      → Wrote (expr_bytes e) before before → Patching s numbers to cut root count before 0 before e
-  patching-begins root count starts is before begins =
+  pub patching-begins : (root : ℕ) → OfNode nodes 0 (λ at t. root ≡ at) → {left : List ℕ} → OfColumns s nodes 0 left
+      → (before : List ℕ) → Wrote (expr_bytes e) before before → Patching s to cut root before left before e
+  patching-begins root starts {left} read before begins =
       let room : length (expr_bytes e) ≤ length before =
       omega (arith, ap length begins, length-append (expr_bytes e) (drop (length (expr_bytes e)) before)) in
-      subst (λ (q : ℕ). Patching s numbers to cut q count before 0 before e) (sym (starts ∙ tabled_start h.tabled))
-      (subst (λ (goal : List ℕ). Looping (PatchPlace s (length to) cut at (length before)) (outside_only cut (renumber s cut at to))
-      numbers count goal 0 before)
-      (patching before begins)
-      (loop-begins (outside_only cut (renumber s cut at to)) before h.tabled (is ∙ tabled-next h.tabled)
-      (patch-places (length before) room)))
+      subst (λ (q : ℕ). Patching s to cut q before left before e) (sym (starts at t h.noded))
+      (subst (λ (left : List ℕ). Patching s to cut at before left before e) (sym (all-read h read))
+      (record { each = patch-places (length before) room; rest = patching before begins }))
 
 -- ---- the copies
 
@@ -201,8 +226,8 @@ begins-still x before {after} e =
     e ∙ ap (λ (l : List ℕ). x ++ l)
     (sym (ap (drop (length x)) e ∙ drop-append_seam x (drop (length x) before)))
 
-module _ (to : List ℕ) {s numbers next : List ℕ} {cut : Cut} {at : ℕ} {t e : Expr}
-    (h : LeftAt (index_below (length to)) s numbers next cut at t e) where
+module _ (to : List ℕ) {s : List ℕ} {nodes : List Lent} {cut : Cut} {at : ℕ} {t e : Expr}
+    (h : LeftAt (index_below (length to)) s nodes cut at t e) where
   abbrev p : Pieces cut at t e
   p = pieces (by-leaf h)
 
@@ -219,9 +244,9 @@ module _ (to : List ℕ) {s numbers next : List ℕ} {cut : Cut} {at : ℕ} {t e
   whole-size : length (expr_bytes t) ≡ length p.before + 2 + length p.between + length p.gone + length p.behind
   whole-size = ap length p.of_all ∙ simp length-append (omega arith)
 
-  module _ (root : ℕ) (starts : root ≡ start_at numbers 0) where
+  module _ (root : ℕ) (starts : OfNode nodes 0 (λ at t. root ≡ at)) where
     there : root ≡ at
-    there = starts ∙ tabled_start h.tabled
+    there = starts at t h.noded
 
     before-span : Between s root cut.parent p.before
     before-span =
@@ -244,12 +269,12 @@ module _ (to : List ℕ) {s numbers next : List ℕ} {cut : Cut} {at : ℕ} {t e
       }
 
       module _ {two : List ℕ} {b : ℕ} (second : PutsAt (Between s (cut.parent + 2) cut.leaf) same a one two b) where
-        module _ (stop : ℕ) (stops : stop ≡ end_at numbers 0) where
+        module _ (stop : ℕ) (stops : OfNode nodes 0 (λ at t. stop ≡ at + length (expr_bytes t))) where
           behind-span : Between s cut.end stop p.behind
           behind-span =
               holds-between
               (back p.gone p.behind (back p.between (p.gone ++ p.behind) after-head cut.leaf (sym p.leaf)) cut.end (sym p.end)) stop
-              (omega (arith, stops, tabled-end h.tabled, whole-size, p.parent, p.leaf, p.end))
+              (omega (arith, stops at t h.noded, whole-size, p.parent, p.leaf, p.end))
 
           pub behind-room : length two ≡ length out → length (copy_of to e) ≤ length out → Room (Between s cut.end stop) same b two
           behind-room kept room = record {
@@ -267,11 +292,11 @@ module _ (to : List ℕ) {s numbers next : List ℕ} {cut : Cut} {at : ℕ} {t e
                 (chain (omega arith) (first.wrote p.before before-span) (second.wrote p.between between-span))
                 (third.wrote p.behind behind-span)))
 
-            pub patch-fits : PatchFits s numbers next to cut three
+            pub patch-fits : PatchFits s nodes to cut three
             patch-fits = (at, t, e, h, begins-still (expr_bytes e) out spans-wrote.1)
 
             -- And with the new indexes.
-            pub rest-wrote : {after : List ℕ} → Patched s numbers next to cut three after
+            pub rest-wrote : {after : List ℕ} → Patched s nodes to cut three after
                 → (r ≡ length (copy_of to e)) × Wrote (copy_of to e) out after
             rest-wrote {after} patched =
                 let x : List ℕ = expr_bytes e in

@@ -17,11 +17,13 @@ use Rattle.byte_writer.specs.Written.{Wrote, WroteAt}
 use Rattle.plan_writer.specs.Copies.{copy_of}
 use Rattle.expression.specs.Cuts.{CutAt}
 use Rattle.expression.specs.Nodes.{OfTree}
-use Rattle.node_rows.specs.Rows.{Tabled}
+use Rattle.node_table.specs.declared.NodeRecord.{NodeRecord as Lent}
+use Rattle.filter_tree.specs.Trees.{Noded}
 use Rattle.remainder.specs.Around.{LeftAt}
 use Rattle.remainder.specs.Records.{stays, MarkedBy, kept_all, AllFit, columns_part, RecordsPut, RowsFit}
 use Rattle.remainder.specs.HeldIndexes.{Unmarked, Unheld, HeldMarked}
-use Rattle.remainder.specs.Remainders.{RestFits, RestCopied, FrameAt, remainder_of}
+use Rattle.remainder.specs.Remainders.{RestFits, RestCopied, remainder_of}
+use Rattle.remainder.specs.Pruned.{Prunable}
 use Rattle.expression.specs.declared.cuts.Cut.{Cut}
 use Rattle.byte_writer.proofs.Written.{behind, together, behind-length, part-wrote, to_start, chain, store}
 use Rattle.plan_writer.proofs.Ranges.{wider-stands}
@@ -51,8 +53,8 @@ frame-parts records e =
     (sym (append_assoc (big_endian 2 (length kept)) (records_bytes kept)
     (expr_bytes (map_columns (new_index (stays records (columns_of e)) records) e))))
 
-module _ {s numbers next : List ℕ} {rec count at : ℕ} {cut : Cut} {records : List Record} {t : Expr} {position : ℕ} {e : Expr}
-    (f : FrameAt s rec count at records t) (tabled : OfTree s at (Tabled numbers next at 0)) (left : Remains cut t at position e) where
+module _ {s from : List ℕ} {nodes : List Lent} {rec count at : ℕ} {cut : Cut} {records : List Record} {t : Expr} {position : ℕ} {e : Expr}
+    (f : Prunable s rec count from at records t) (noded : OfTree from at (Noded nodes at 0)) (left : Remains cut t at position e) where
   abbrev new : ℕ → ℕ
   new = new_index (stays records (columns_of e)) records
 
@@ -65,28 +67,28 @@ module _ {s numbers next : List ℕ} {rec count at : ℕ} {cut : Cut} {records :
   unfolding big_endian
   size = ap length parts ∙ simp length-append (omega arith)
 
-  -- It is in the rows, with as many indexes as there are records or more.
-  in-rows : {n up : ℕ} → count ≤ n → CutAt cut up t at position → LeftAt (index_below n) s numbers next cut at t e
-  in-rows {n} {up} room cutting = record {
+  -- It stands there with its records, with as many indexes as there are records or more.
+  in-tree : {n up : ℕ} → count ≤ n → CutAt cut up t at position → LeftAt (index_below n) from nodes cut at t e
+  in-tree {n} {up} room cutting = record {
     up = up;
     position = position;
     stands = wider-stands room f.tree;
-    tabled = tabled (index_below count) t f.tree;
+    noded = noded (index_below count) t f.tree;
     cutting = cutting;
     left = left.without-leaf;
   }
 
   pub still-unheld : {up : ℕ} (flags : List Bool) → CutAt cut up t at position → count ≤ length flags → Unmarked flags
-      → Unheld s numbers next cut flags
-  still-unheld flags cutting room clear = (at, t, e, in-rows room cutting, clear)
+      → Unheld from nodes cut flags
+  still-unheld flags cutting room clear = (at, t, e, in-tree room cutting, clear)
 
   module _ (flags used : List Bool) {up : ℕ} (cutting : CutAt cut up t at position) (room : count ≤ length flags)
-      (same : length used ≡ length flags) (is : HeldMarked s numbers next cut flags used) where
+      (same : length used ≡ length flags) (is : HeldMarked from nodes cut flags used) where
     -- The flags mark the columns of what is left.
     rest-marked : MarkedBy s rec count used records (columns_of e)
     rest-marked = record {
       entries = f.entries;
-      flagged = held-flags e used count (is at t e (in-rows room cutting)) (omega arith)
+      flagged = held-flags e used count (is at t e (in-tree room cutting)) (omega arith)
           (columns-below count e (left.in_range (index_below count) f.tree.in_range));
     }
 
@@ -107,15 +109,15 @@ module _ {s numbers next : List ℕ} {rec count at : ℕ} {cut : Cut} {records :
           omega (arith, written.ends, ap length parts, both)
 
       pub expr-fits : count ≤ length to → length middle ≡ length before → length (remainder_of records t position) ≤ length before
-          → RestFits s numbers next to cut (behind w middle)
+          → RestFits from nodes to cut (behind w middle)
       expr-fits long as_long fits =
-          (at, t, e, in-rows long cutting, omega (arith, ap length copied, records-end fits, behind-length w middle))
+          (at, t, e, in-tree long cutting, omega (arith, ap length copied, records-end fits, behind-length w middle))
 
-      pub frame-put : (part : List ℕ) (wrote : ℕ) → count ≤ length to → RestCopied s numbers next to cut (behind w middle) part wrote
+      pub frame-put : (part : List ℕ) (wrote : ℕ) → count ≤ length to → RestCopied from nodes to cut (behind w middle) part wrote
           → (w + wrote ≡ length (remainder_of records t position))
           × Wrote (remainder_of records t position) before (together w middle part)
       frame-put part wrote long copy =
-          let expr = copy at t e (in-rows long cutting) in
+          let expr = copy at t e (in-tree long cutting) in
           subst (λ (x : List ℕ). (w + wrote ≡ length x) × Wrote x before (together w middle part))
           (ap (λ (y : List ℕ). columns_part (kept_all records (columns_of e)) ++ y) copied ∙ sym parts)
           (to_start (chain (omega arith) written (part-wrote (copy_of to e) middle part w expr.1 wrote expr.0)))

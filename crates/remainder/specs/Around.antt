@@ -9,7 +9,8 @@ use Rattle.definitions.specs.Filter.Extract.{without}
 use Rattle.expression.specs.Nodes.{Stands}
 use Rattle.expression.specs.Cuts.{CutAt}
 use Rattle.expression.specs.declared.cuts.Cut.{Cut}
-use Rattle.node_rows.specs.Rows.{Tabled}
+use Rattle.node_table.specs.declared.NodeRecord.{NodeRecord as Lent}
+use Rattle.filter_tree.specs.Trees.{Noded}
 
 -- Whether a place does not lie in the leaf.
 abbrev pub outside : Cut → (place : ℕ) → Bool
@@ -30,18 +31,18 @@ pub record Movable (cut : Cut) (at place : ℕ) : Type 0 where
   pub low : at ≤ place
   pub high : cut.leaf ≤ place → cut.end ≤ place
 
--- The rows hold the expression t that stands at a place, and e is left of it without the AND-leaf that is cut out.
-pub record LeftAt (c : Columns) (s numbers next : List ℕ) (cut : Cut) (at : ℕ) (t e : Expr) : Type 0 where
+-- The records are those of the expression t that stands at a place, and e is left of it without the AND-leaf that is cut out.
+pub record LeftAt (c : Columns) (s : List ℕ) (nodes : List Lent) (cut : Cut) (at : ℕ) (t e : Expr) : Type 0 where
   pub up : ℕ
   pub position : ℕ
   pub stands : Stands c s at t
-  pub tabled : Tabled numbers next at 0 t
+  pub noded : Noded nodes at 0 t
   pub cutting : CutAt cut up t at position
   pub left : without position t ≡ some e
 
 -- There are such; what is claimed of what is left.
-abbrev pub SomeLeft : Columns → (s numbers next : List ℕ) → Cut → (Expr → Type 0) → Type 0
-SomeLeft c s numbers next cut P = (at : ℕ) × (t : Expr) × (e : Expr) × LeftAt c s numbers next cut at t e × P e
+abbrev pub SomeLeft : Columns → (s : List ℕ) (nodes : List Lent) → Cut → (Expr → Type 0) → Type 0
+SomeLeft c s nodes cut P = (at : ℕ) × (t : Expr) × (e : Expr) × LeftAt c s nodes cut at t e × P e
 
-abbrev pub OfLeft : Columns → (s numbers next : List ℕ) → Cut → (Expr → Type 0) → Type 0
-OfLeft c s numbers next cut P = (at : ℕ) (t e : Expr) → LeftAt c s numbers next cut at t e → P e
+abbrev pub OfLeft : Columns → (s : List ℕ) (nodes : List Lent) → Cut → (Expr → Type 0) → Type 0
+OfLeft c s nodes cut P = (at : ℕ) (t e : Expr) → LeftAt c s nodes cut at t e → P e

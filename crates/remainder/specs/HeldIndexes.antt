@@ -1,9 +1,10 @@
--- Request 3: the indexes that what is left holds, as flags.
+-- The indexes that what is left holds, as flags: the records of those stay.
 use Rattle.std.specs.Prelude.{ℕ, ◌<◌, ◌≡◌, Bool, false, List, length, get_or}
 use Rattle.definitions.specs.Words.Expression.{Expr}
 use Rattle.definitions.specs.Bytes.Decode.{index_below}
 use Rattle.definitions.specs.Filter.Extract.{holds}
 use Rattle.expression.specs.declared.cuts.Cut.{Cut}
+use Rattle.node_table.specs.declared.NodeRecord.{NodeRecord as Lent}
 use Rattle.remainder.specs.Around.{SomeLeft, OfLeft}
 
 -- No flag is set.
@@ -14,10 +15,10 @@ Unmarked flags = (index : ℕ) → get_or flags index false ≡ false
 abbrev pub Marks : Expr → (flags : List Bool) → Type 0
 Marks e flags = (index : ℕ) → index < length flags → get_or flags index false ≡ holds e index
 
--- An expression is in the rows, its leaf where the cut says, with a flag for each of its columns; none is set.
-abbrev pub Unheld : (s numbers next : List ℕ) → Cut → (flags : List Bool) → Type 0
-Unheld s numbers next cut flags = SomeLeft (index_below (length flags)) s numbers next cut (λ e. Unmarked flags)
+-- An expression stands there with its records, its leaf where the cut says, with a flag for each of its columns; none is set.
+abbrev pub Unheld : (s : List ℕ) (nodes : List Lent) → Cut → (flags : List Bool) → Type 0
+Unheld s nodes cut flags = SomeLeft (index_below (length flags)) s nodes cut (λ e. Unmarked flags)
 
 -- The flags are those of what is left of it.
-abbrev pub HeldMarked : (s numbers next : List ℕ) → Cut → (before after : List Bool) → Type 0
-HeldMarked s numbers next cut before after = OfLeft (index_below (length before)) s numbers next cut (λ e. Marks e after)
+abbrev pub HeldMarked : (s : List ℕ) (nodes : List Lent) → Cut → (before after : List Bool) → Type 0
+HeldMarked s nodes cut before after = OfLeft (index_below (length before)) s nodes cut (λ e. Marks e after)

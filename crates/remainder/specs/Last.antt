@@ -15,23 +15,23 @@ use Rattle.remainder.specs.Pruned.{Prunable}
 abbrev pub last_bytes : (goes : Expr → Bool) → List Record → Expr → List ℕ
 last_bytes goes records t = remainder_bytes (map (prune records) (without_all goes t))
 
--- A frame in s whose AND-leaves have these flags.
-pub record Left (s : List ℕ) (rec count at : ℕ) (gone : List ℕ) (goes : Expr → Bool) (records : List Record) (t : Expr)
+-- Records in s and an expression over them whose AND-leaves have these flags.
+pub record Left (s : List ℕ) (rec count : ℕ) (from : List ℕ) (at : ℕ) (gone : List ℕ) (goes : Expr → Bool) (records : List Record) (t : Expr)
     : Type 0 where
-  pub frame : Prunable s rec count s at records t
+  pub frame : Prunable s rec count from at records t
   pub counted : length (leaves t) ≡ length gone
   pub flags : Holds gone 0 (gone_flags goes t)
 
 -- There is one, room for its expression, and room for what is left; each was written.
-pub record LastFits (s : List ℕ) (rec count at : ℕ) (gone : List ℕ) (row out : List ℕ) : Type 0 where
+pub record LastFits (s : List ℕ) (rec count : ℕ) (from : List ℕ) (at : ℕ) (gone : List ℕ) (row out : List ℕ) : Type 0 where
   pub goes : Expr → Bool
   pub records : List Record
   pub tree : Expr
-  pub left : Left s rec count at gone goes records tree
+  pub left : Left s rec count from at gone goes records tree
   pub short : length (expr_bytes tree) ≤ length row
   pub room : length (last_bytes goes records tree) ≤ length out
 
-abbrev pub LastPut : (s : List ℕ) (rec count at : ℕ) (gone : List ℕ) (before after : List ℕ) → ℕ → Type 0
-LastPut s rec count at gone before after r =
-    (goes : Expr → Bool) (records : List Record) (t : Expr) → Left s rec count at gone goes records t
+abbrev pub LastPut : (s : List ℕ) (rec count : ℕ) (from : List ℕ) (at : ℕ) (gone : List ℕ) (before after : List ℕ) → ℕ → Type 0
+LastPut s rec count from at gone before after r =
+    (goes : Expr → Bool) (records : List Record) (t : Expr) → Left s rec count from at gone goes records t
     → (r ≡ length (last_bytes goes records t)) × Wrote (last_bytes goes records t) before after

@@ -3,12 +3,12 @@
 ghost use Rattle.std.specs.Prelude.{◌≤◌, ◌≡◌, [], ◌∷◌, length};
 ghost use Rattle.definitions.specs.Words.Leaves.{leaves};
 ghost use Rattle.expression.specs.Nodes.{OfTree};
-ghost use Rattle.node_rows.specs.Rows.{Tabled};
+ghost use Rattle.filter_tree.specs.Trees.{Noded};
 ghost use Rattle.remainder.specs.Rests.{RestFits, RestPut, AndPut};
 
 use byte_writer::copies::copy_at;
 use expression::leaves::{Node, node_at};
-use node_rows::rows::Rows;
+use filter_tree::tree::Tree;
 
 // Where what stays of an expression starts, and how many AND-leaves are before the expression. Where nothing stays it starts at its end,
 // and the next one is written there without a case of its own.
@@ -18,15 +18,7 @@ pub struct Stays {
     pub leaf: usize,
 }
 
-// The bytes of a filter, with its nodes in rows. This, and `Place` below, are what the walk needs of what the matchers take, which have the
-// records and a position too.
-#[derive(Clone, Copy)]
-pub struct Nodes<'a> {
-    pub src: &'a [u8],
-    pub rows: Rows<'a>,
-}
-
-// Where a node stands, and its index in the rows.
+// Where a node stands, and its index.
 #[derive(Clone, Copy)]
 pub struct Place {
     pub at: usize,
@@ -37,23 +29,24 @@ pub struct Place {
 fn put_leaf(
     out: &mut [u8],
     end: usize,
-    nodes: Nodes,
+    tree: Tree,
     place: Place,
     gone: &[u8],
     after: usize,
 ) -> Stays
-    requires rest_fits { RestFits nodes.src.now place.at end after gone.now out.old }
-    requires of_tree { OfTree nodes.src.now place.at (λ t. (leaves t ≡ t ∷ [])
-        × Tabled nodes.rows.numbers.now nodes.rows.next.now place.at place.index t) }
-    ensures { OfTree nodes.entry.src.now place.at (RestPut end after gone.now out.old out.new result) }
+    requires rest_fits { RestFits tree.bytes.now place.at end after gone.now out.old }
+    requires of_tree { OfTree tree.bytes.now place.at (λ t. (leaves t ≡ t ∷ [])
+        × Noded tree.nodes.now place.at place.index t) }
+    ensures { OfTree tree.entry.bytes.now place.at
+        (RestPut end after gone.now out.old out.new result) }
 {
     let leaf = after - 1;
     if gone[leaf] == 1 {
         return Stays { start: end, leaf };
     }
-    let stop = nodes.rows.end(place.index);
+    let stop = tree.end(place.index);
     let start = end - (stop - place.at);
-    copy_at(out, start, nodes.src, place.at, stop);
+    copy_at(out, start, tree.bytes, place.at, stop);
     Stays { start, leaf }
 }
 
@@ -82,25 +75,26 @@ fn put_and_head(out: &mut [u8], left: Stays, middle: usize, end: usize) -> Stays
 pub fn put_rest(
     out: &mut [u8],
     end: usize,
-    nodes: Nodes,
+    tree: Tree,
     place: Place,
     gone: &[u8],
     after: usize,
 ) -> Stays
-    requires rest_fits { RestFits nodes.src.now place.at end after gone.now out.old }
-    requires of_tree { OfTree nodes.src.now place.at (Tabled nodes.rows.numbers.now nodes.rows.next.now place.at place.index) }
-    ensures { OfTree nodes.entry.src.now place.at (RestPut end after gone.now out.old out.new result) }
+    requires rest_fits { RestFits tree.bytes.now place.at end after gone.now out.old }
+    requires of_tree { OfTree tree.bytes.now place.at (Noded tree.nodes.now place.at place.index) }
+    ensures { OfTree tree.entry.bytes.now place.at
+        (RestPut end after gone.now out.old out.new result) }
 {
-    let Node::And(left) = node_at(nodes.src, place.at) else {
-        return put_leaf(out, end, nodes, place, gone, after);
+    let Node::And(left) = node_at(tree.bytes, place.at) else {
+        return put_leaf(out, end, tree, place, gone, after);
     };
     let index = place.index + 1;
     let behind = Place {
-        at: nodes.rows.end(index),
-        index: nodes.rows.after(index),
+        at: tree.end(index),
+        index: tree.after(index),
     };
-    let right = put_rest(out, end, nodes, behind, gone, after);
+    let right = put_rest(out, end, tree, behind, gone, after);
     let before = Place { at: left, index };
-    let first = put_rest(out, right.start, nodes, before, gone, right.leaf);
+    let first = put_rest(out, right.start, tree, before, gone, right.leaf);
     put_and_head(out, first, right.start, end)
 }

@@ -12,7 +12,7 @@ use Rattle.theorems.proofs.Columns.{map-length}
 use Rattle.expression.specs.Nodes.{head_bytes, children_of, kind_of}
 use Rattle.expression.proofs.OfKind.{no-own-columns}
 use Rattle.expression.proofs.Standing.{head-children}
-use Rattle.node_rows.proofs.ColumnRows.{columns_at, row_columns_at, columns-count, columns-below}
+use Rattle.filter_tree.proofs.ColumnPlaces.{columns_at, row_columns_at, columns-count, columns-below}
 use Rattle.plan_writer.specs.Copies.{copy_of, copies_of}
 use Rattle.plan_writer.proofs.Copying.{map-node, put_index, column-between}
 

@@ -1,15 +1,16 @@
 -- What the calls of `put_rest` require, by the And that was found.
 use Prim.Native.Nat.{ℕ, ◌+◌, ◌≤◌}
 use native.Mathlib.Omega.{arith}
-use mathlib.Core.Path.{◌≡◌, refl, ap, ◌∙◌, subst⁻¹}
+use mathlib.Core.Path.{◌≡◌, refl, ap, ◌∙◌, subst, subst⁻¹}
 use mathlib.Core.List.{List, [], ◌∷◌}
 use lib.ListN.{length, length-append}
 use types.Run.{OneOf, miss}
 use denote.Enum.Declared.{tag_of}
-use Rattle.definitions.specs.Words.Expression.{Expr, and}
+use Rattle.definitions.specs.Words.Expression.{Expr, and, nil, cons}
 use Rattle.definitions.specs.Bytes.Encode.{expr_bytes}
 use Rattle.definitions.specs.Words.Leaves.{leaves}
 use Rattle.definitions.specs.Bytes.Decode.{Columns}
+use Rattle.definitions.specs.Bytes.Good.{nodes as nodes_in}
 use Rattle.expression.specs.Nodes.{head_bytes, Stands}
 use Rattle.expression.specs.Leaves.{NodeIs, Both}
 use Rattle.expression.specs.declared.leaves.Node.{Node}
@@ -17,6 +18,10 @@ use Rattle.expression.specs.declared.leaves.Node.TheVariants.{And, Binary, Call,
 use Rattle.expression.specs.contracts.leaves.Node.{the_type}
 use Rattle.expression.proofs.AndLeaves.{plain-leaf}
 use Rattle.expression.proofs.Standing.{first-stands, rest-stands}
+use Rattle.node_table.specs.declared.NodeRecord.{NodeRecord as Lent}
+use Rattle.filter_tree.specs.Trees.{Noded, NodedAll}
+use Rattle.filter_tree.proofs.Scans.{noded-children}
+use Rattle.filter_tree.proofs.Children.{noded-first, noded-rest}
 use Rattle.remainder.specs.Rests.{RestFits, RestPut}
 use Rattle.remainder.specs.declared.rests.Stays.{Stays}
 
@@ -42,6 +47,16 @@ module _ {c : Columns} {s : List ℕ} {at left : ℕ} {t : Expr} (b : Both and c
   pub left_after : left ≡ at + 2
   unfolding head_bytes
   left_after = b.begins ∙ ap (λ (u : Expr). at + length (head_bytes u)) b.is
+
+  module _ {nodes : List Lent} {i : ℕ} (h : Noded nodes at i t) where
+    side-nodes : NodedAll nodes left (i + 1) (cons b.l (cons b.r nil))
+    side-nodes = subst (NodedAll nodes left (i + 1)) b.children (noded-children h left (i + 1) b.begins refl)
+
+    pub left-at : Noded nodes left (i + 1) b.l
+    left-at = noded-first side-nodes
+
+    pub right-at-index : (p k : ℕ) → p ≡ left + length (expr_bytes b.l) → k ≡ i + 1 + nodes_in b.l → Noded nodes p k b.r
+    right-at-index p k e f = noded-first (noded-rest side-nodes p k e f)
 
   pub right-stands : (p : ℕ) → p ≡ left + length (expr_bytes b.l) → Stands c s p b.r
   right-stands p e = first-stands (rest-stands b.row p 1 e refl)

@@ -1,17 +1,17 @@
--- A refused frame has its own refusal. Of a good one, whose nodes are in the rows, a buffer as long as the frame is written at once; a
+-- A refused frame has its own refusal. Of a good one a buffer as long as the frame is written at once; a
 -- shorter one once it is known to be long enough.
-use lib.ListN.{replicate}
+use native.Mathlib.Omega.{arith}
+use lib.ListN.{replicate, length-replicate}
 use Rattle.node_reader.proofs.Reading.{kept}
 use Rattle.node_reader.proofs.Standing.{all-bytes}
-use Rattle.call_extract_all.proofs.Calling.{GoodFrame, OwnMemory, all-refused, good-read, rows-read, clear-memory, straight-fits, straight, own-fits, own-holds, too_short, copied}
-use Rattle.frame_reader.proofs.FrameRows.{clear-roomy}
+use Rattle.call_extract_all.proofs.Calling.{GoodFrame, OwnMemory, all-refused, good-read, tree-within, tree-read, clear-memory, straight-fits, straight, own-fits, own-holds, too_short, copied}
 use Rattle.call_extract_all.proofs.call.extract_all_by.Goals as goal
 use Rattle.call_extract_all.proofs.call.extract_all_by.Given.{Over}
 use Rattle.call_extract_all.proofs.call.extract_all_by.Goals.{In_ok-parts, Start}
 
 -- The frame that was read is good.
 good : (g : Over) (c : In_ok-parts g) → GoodFrame c.args.frame.now c.in_ok-parts.parts
-good g c = good-read c.args.frame.now (all-bytes c.args.frame.now c.type_inv.frame) c.in_ok-parts.ensures
+good g c = good-read c.args.frame.now (all-bytes c.args.frame.now c.type_inv.frame) c.physical_frame_in.new.row c.in_ok-parts.ensures
 
 -- There is enough memory for it.
 memory : (g : Over) (c : Start g)
@@ -20,12 +20,18 @@ memory g c = clear-memory g.row.BYTES g.row.NODES c.args.frame.now c.requires.by
 
 pub physical_frame_in-requires : goal.physical_frame_in-requires
 physical_frame_in-requires g c =
-    clear-roomy g.row.NODES _ c.requires.nodes.0
+    simp length-replicate c.requires.nodes.0
 
 pub returns-in_err-parts : goal.returns-in_err-parts
 returns-in_err-parts g c =
     rw (kept c.from_residual.ensures)
     (all-refused c.args.settings.good c.args.frame.now c.args.out.now _ c.in_err-parts.ensures)
+
+pub shared_whole_as_front-tree : goal.shared_whole_as_front-tree
+shared_whole_as_front-tree g c =
+    let within = tree-within c.args.frame.now (all-bytes c.args.frame.now c.type_inv.frame) c.physical_frame_in.new.row
+    c.in_ok-parts.ensures in
+    (omega (arith, within, simp length-replicate at c.physical_frame_in.auto.row), omega (arith, c.requires.nodes.1))
 
 pub put_all-requires : goal.put_all-requires
 put_all-requires g c =
@@ -34,7 +40,7 @@ put_all-requires g c =
       all_fits = straight-fits c.args.settings.good c.args.frame.now c.args.out.now it
           (memory g (goal.at.put_all-requires g c).Start).memory
           c.if-frame-out.true;
-      of_tree = rows-read c.args.frame.now (all-bytes c.args.frame.now c.type_inv.frame) c.in_ok-parts.ensures;
+      of_tree = tree-read c.args.frame.now (all-bytes c.args.frame.now c.type_inv.frame) c.physical_frame_in.new.row c.in_ok-parts.ensures;
     }
 
 pub returns-then-frame-out : goal.returns-then-frame-out
@@ -50,7 +56,7 @@ put_all-taken-requires g c =
       all_fits = own-fits c.args.settings.good c.args.frame.now c.args.out.now
           (good g (goal.at.put_all-taken-requires g c).In_ok-parts)
           (memory g (goal.at.put_all-taken-requires g c).Start);
-      of_tree = rows-read c.args.frame.now (all-bytes c.args.frame.now c.type_inv.frame) c.in_ok-parts.ensures;
+      of_tree = tree-read c.args.frame.now (all-bytes c.args.frame.now c.type_inv.frame) c.physical_frame_in.new.row c.in_ok-parts.ensures;
     }
 
 pub returns-then-out-taken : goal.returns-then-out-taken

@@ -20,14 +20,14 @@ flag c = flag-room c.requires.list_fits (c.requires.leaf_alone _ c.requires.list
 
 -- Which kind the match is.
 knn : (c : In-KNearestNeighbors) (records : List Record) (q : Predicate)
-    → PredicateAt (on_children records) c.args.listing.filter.s.now c.in-Some.predicate q → is_knn q ≡ true
+    → PredicateAt (on_children records) c.args.listing.filter.tree.bytes.now c.in-Some.predicate q → is_knn q ≡ true
 knn c records q h =
-    knn-is c.args.listing.filter.s.now records c.in-KNearestNeighbors.field-0 q (rw c.in-KNearestNeighbors.is at h)
+    knn-is c.args.listing.filter.tree.bytes.now records c.in-KNearestNeighbors.field-0 q (rw c.in-KNearestNeighbors.is at h)
 
 other : (c : In_default-predicate) (records : List Record) (q : Predicate)
-    → PredicateAt (on_children records) c.args.listing.filter.s.now c.in-Some.predicate q → is_other q ≡ true
+    → PredicateAt (on_children records) c.args.listing.filter.tree.bytes.now c.in-Some.predicate q → is_other q ≡ true
 other c records q h =
-    other_is c.args.listing.filter.s.now records c.in-Some.predicate q c.in_default-predicate.not-KNearestNeighbors h
+    other_is c.args.listing.filter.tree.bytes.now records c.in-Some.predicate q c.in_default-predicate.not-KNearestNeighbors h
 
 pub returns-in_default : goal.returns-in_default
 returns-in_default c =

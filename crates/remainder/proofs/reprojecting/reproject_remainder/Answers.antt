@@ -1,12 +1,11 @@
 -- `reproject_remainder`: three copies write the bytes of what is left, and then its columns are renumbered where they are.
 use native.Mathlib.Omega.{arith}
 use mathlib.Core.Path.{◌∙◌}
-use Rattle.remainder.proofs.LeftCopies.{first-index, cut-short, before-room, between-room, behind-room, patch-fits, rest-wrote}
+use Rattle.remainder.proofs.LeftCopies.{first-node, cut-short, before-room, between-room, behind-room, patch-fits, rest-wrote}
 use Rattle.remainder.proofs.reprojecting.reproject_remainder.Goals as goal
 
 pub start-requires : goal.start-requires
-start-requires c =
-    (first-index c.requires.3).0
+start-requires c = first-node c.requires.3
 
 pub copy_at-parent-requires : goal.copy_at-parent-requires
 copy_at-parent-requires c =
@@ -14,15 +13,14 @@ copy_at-parent-requires c =
 
 pub overflow_add-cut : goal.overflow_add-cut
 overflow_add-cut c =
-    omega (arith, cut-short c.requires.3)
+    omega (arith, c.ranges.tree, cut-short c.requires.3)
 
 pub copy_at-leaf-requires : goal.copy_at-leaf-requires
 copy_at-leaf-requires c =
     between-room c.args.to.now c.requires.3 _ c.start.ensures c.copy_at-parent.ensures c.copy_at-parent.auto.out c.requires.4
 
 pub end-requires : goal.end-requires
-end-requires c =
-    (first-index c.requires.3).0
+end-requires c = first-node c.requires.3
 
 pub copy_at-length-requires : goal.copy_at-length-requires
 copy_at-length-requires c =

@@ -1,8 +1,8 @@
 -- `put_rest`: an And is its right side, then its left side before it, then its head; any other node is an AND-leaf.
 -- A call goes to a place further on, so the measure is the bytes left.
-use Prim.Native.Nat.{ℕ, ◌+◌, ◌<◌}
+use Prim.Native.Nat.{ℕ, ◌+◌}
 use native.Mathlib.Omega.{arith}
-use mathlib.Core.Path.{◌≡◌, refl, ◌∙◌, subst⁻¹}
+use mathlib.Core.Path.{◌≡◌, refl, subst⁻¹}
 use lib.ListN.{length}
 use Rattle.definitions.specs.Words.Expression.{Expr, and as expr-and}
 use Rattle.definitions.specs.Bytes.Encode.{expr_bytes}
@@ -10,55 +10,45 @@ use Rattle.definitions.specs.Bytes.Decode.{Columns}
 use Rattle.expression.specs.Nodes.{Stands}
 use Rattle.expression.specs.Leaves.{Both}
 use Rattle.expression.proofs.Standing.{node-some, first-stands}
-use Rattle.node_rows.specs.Rows.{Tabled}
-use Rattle.node_rows.proofs.RowLaws.{tabled-end, tabled-next, tabled-within}
-use Rattle.node_rows.proofs.IndexLaws.{left-tabled, right-tabled}
+use Rattle.filter_tree.specs.Trees.{Noded, Node}
+use Rattle.filter_tree.proofs.Scans.{noded-within}
 use Rattle.expression.proofs.OneTree.{of_tree}
 use Rattle.remainder.specs.Rests.{RestPut}
 use Rattle.remainder.proofs.RestLaws.{and-put}
-use Rattle.remainder.proofs.rests.RestWalk.{lone-leaf, left_after, right-stands, right-fits, left-fits, head-fits}
+use Rattle.remainder.proofs.rests.RestWalk.{lone-leaf, left-at, right-at-index, left_after, right-stands, right-fits, left-fits, head-fits}
 use borrow.Enum.Refused.{opened}
 use Rattle.remainder.proofs.rests.+put_rest.Goals as goal
 use Rattle.remainder.proofs.rests.+put_rest.Goals.{After-end, After-put_rest-right, In-And}
 
 -- The And that was found.
 abbrev found : (t : ℕ) (c : In-And t) (d : Columns) (u : Expr)
-    → Stands d c.args.nodes.src.now
+    → Stands d c.args.tree.bytes.now
     c.args.place.at u
-    → Both expr-and d c.args.nodes.src.now
+    → Both expr-and d c.args.tree.bytes.now
     c.args.place.at c.in-And.left u
 found t c d u stands = rw c.in-And.is at (c.node_at.ensures d u stands)
 
--- Its left side, in the rows.
-left-rows : (t : ℕ) (c : In-And t) (d : Columns) (u : Expr)
-    (stands : Stands d c.args.nodes.src.now
+-- Its left side, with its records.
+left-node : (t : ℕ) (c : In-And t) (d : Columns) (u : Expr)
+    (stands : Stands d c.args.tree.bytes.now
     c.args.place.at u)
-    → Tabled c.args.nodes.rows.numbers.now
-    c.args.nodes.rows.next.now c.in-And.left
-    (c.args.place.index + 1)
-    (found t c d u stands).l
-left-rows t c d u stands =
-    left-tabled (c.requires.of_tree d u stands) (found t c d u stands)
+    → Noded c.args.tree.nodes.now c.in-And.left (c.args.place.index + 1) (found t c d u stands).l
+left-node t c d u stands = left-at (found t c d u stands) (c.requires.of_tree d u stands)
 
-within : (t : ℕ) (c : In-And t)
-    → (c.args.place.index + 1 < length
-    c.args.nodes.rows.numbers.now)
-    × (c.args.place.index + 1 < length
-    c.args.nodes.rows.next.now)
-within t c = let f = c.requires.rest_fits in tabled-within
-    (left-rows t c f.columns f.tree f.stands)
+node : (t : ℕ) (c : In-And t) → Node c.args.tree.nodes.now (c.args.place.index + 1)
+node t c = let f = c.requires.rest_fits in (_, _, left-node t c f.columns f.tree f.stands)
 
 -- Where the right side stands.
 right-at : (t : ℕ) (c : After-end t) (d : Columns) (u : Expr)
-    (stands : Stands d c.args.nodes.src.now
+    (stands : Stands d c.args.tree.bytes.now
     c.args.place.at u)
     → c.end.result ≡ c.in-And.left + length (expr_bytes (rw c.in-And.is at (c.node_at.ensures d u stands)).l)
-right-at t c d u stands = c.end.ensures
-    ∙ tabled-end (left-tabled (c.requires.of_tree d u stands) (rw c.in-And.is at (c.node_at.ensures d u stands)))
+right-at t c d u stands =
+    c.end.ensures _ _ (left-at (rw c.in-And.is at (c.node_at.ensures d u stands)) (c.requires.of_tree d u stands))
 
 -- What the call for the right side left.
 right-put : (t : ℕ) (c : After-put_rest-right t) (d : Columns) (u : Expr)
-    (stands : Stands d c.args.nodes.src.now c.args.place.at u)
+    (stands : Stands d c.args.tree.bytes.now c.args.place.at u)
     → RestPut c.args.end
     c.args.after
     c.args.gone.now
@@ -67,26 +57,31 @@ right-put : (t : ℕ) (c : After-put_rest-right t) (d : Columns) (u : Expr)
     c.put_rest-right.result (rw c.in-And.is at (c.node_at.ensures d u stands)).r
 right-put t c d u stands =
     c.put_rest-right.ensures d _
-    (right-stands (rw c.in-And.is at (c.node_at.ensures d u stands)) _ (c.end.ensures
-    ∙ tabled-end (left-tabled (c.requires.of_tree d u stands) (rw c.in-And.is at (c.node_at.ensures d u stands)))))
+    (right-stands (rw c.in-And.is at (c.node_at.ensures d u stands)) _
+    (c.end.ensures _ _ (left-at (rw c.in-And.is at (c.node_at.ensures d u stands)) (c.requires.of_tree d u stands))))
 
 pub put_leaf-requires : goal.put_leaf-requires
 put_leaf-requires t c =
     let node = c.node_at in record {
       rest_fits = c.requires.rest_fits;
       of_tree = λ d u stands. (
-        lone-leaf d c.args.nodes.src.now c.args.place.at u node.result (opened c.in_default.in_default-own.keys2) (node.ensures d u stands),
+        lone-leaf d c.args.tree.bytes.now c.args.place.at u node.result (opened c.in_default.in_default-own.keys2) (node.ensures d u stands),
         c.requires.of_tree d u stands,
       );
     }
 
+pub overflow_add-index : goal.overflow_add-index
+overflow_add-index t c =
+    let f = c.requires.rest_fits in
+    omega (arith, c.well_formed, noded-within (c.requires.of_tree _ f.tree f.stands))
+
 pub end-requires : goal.end-requires
 end-requires t c =
-    (within t (goal.at.end-requires t c).In-And).0
+    node t (goal.at.end-requires t c).In-And
 
 pub after-requires : goal.after-requires
 after-requires t c =
-    (within t (goal.at.after-requires t c).In-And).1
+    node t (goal.at.after-requires t c).In-And
 
 pub put_rest-right-requires : goal.put_rest-right-requires
 put_rest-right-requires t c =
@@ -96,8 +91,8 @@ put_rest-right-requires t c =
       omega (arith, c.decreases, e, left_after both, node-some (right-stands both _ e)),
       (
         right-fits f both _ e,
-        of_tree _ (right-stands both _ e) (right-tabled (c.requires.of_tree _ f.tree f.stands) both _ _ e
-            (c.after.ensures ∙ tabled-next (left-rows t (goal.at.put_rest-right-requires t c).In-And f.columns f.tree f.stands))),
+        of_tree _ (right-stands both _ e) (right-at-index both (c.requires.of_tree _ f.tree f.stands) _ _ e
+            (c.after.ensures _ _ (left-node t (goal.at.put_rest-right-requires t c).In-And f.columns f.tree f.stands))),
       ),
     )
 
@@ -109,7 +104,7 @@ put_rest-first-requires t c =
       (
         left-fits f both (right-put t (goal.at.put_rest-first-requires t c).After-put_rest-right f.columns f.tree
             f.stands) c.put_rest-right.auto.out,
-        of_tree _ (first-stands both.row) (left-rows t (goal.at.put_rest-first-requires t c).In-And f.columns f.tree f.stands),
+        of_tree _ (first-stands both.row) (left-node t (goal.at.put_rest-first-requires t c).In-And f.columns f.tree f.stands),
       ),
     )
 

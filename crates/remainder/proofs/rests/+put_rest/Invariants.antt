@@ -6,4 +6,4 @@ use Rattle.remainder.proofs.rests.+put_rest.Given as goal
 
 abbrev pub decreases-put_rest : goal.decreases-put_rest
 decreases-put_rest l =
-    length l.nodes.src.now - l.place.at
+    length l.tree.bytes.now - l.place.at

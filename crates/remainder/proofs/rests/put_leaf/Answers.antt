@@ -1,22 +1,21 @@
 -- `put_leaf`: the only AND-leaf below the node is the node, so its flag says whether it stays.
 use Prim.Native.Nat.{◌+◌}
 use native.Mathlib.Omega.{arith}
-use mathlib.Core.Path.{◌≡◌, refl, ap, ◌∙◌}
+use mathlib.Core.Path.{◌≡◌, refl, ap}
 use lib.ListN.{length}
 use Rattle.expression.proofs.Standing.{spans-between}
 use Rattle.definitions.specs.Bytes.Decode.{Columns}
 use Rattle.definitions.specs.Bytes.Encode.{expr_bytes}
 use Rattle.definitions.specs.Words.Expression.{Expr}
 use Rattle.expression.specs.Nodes.{Stands}
-use Rattle.node_rows.proofs.RowLaws.{tabled-end, tabled-within}
 use Rattle.remainder.proofs.RestLaws.{leaf-goes, leaf-stays}
 use Rattle.remainder.proofs.rests.put_leaf.Goals as goal
 use Rattle.remainder.proofs.rests.put_leaf.Goals.{After-end-stop}
 
 -- Where the node ends.
-stop-is : (c : After-end-stop) (d : Columns) (t : Expr) → Stands d c.args.nodes.src.now c.args.place.at t
+stop-is : (c : After-end-stop) (d : Columns) (t : Expr) → Stands d c.args.tree.bytes.now c.args.place.at t
     → c.end-stop.result ≡ c.args.place.at + length (expr_bytes t)
-stop-is c d t stands = c.end-stop.ensures ∙ tabled-end (c.requires.of_tree d t stands).1
+stop-is c d t stands = c.end-stop.ensures _ _ (c.requires.of_tree d t stands).1
 
 pub returns-then-gone-leaf-eq1 : goal.returns-then-gone-leaf-eq1
 returns-then-gone-leaf-eq1 c =
@@ -28,7 +27,7 @@ returns-then-gone-leaf-eq1 c =
 pub end-stop-requires : goal.end-stop-requires
 end-stop-requires c =
     let f = c.requires.rest_fits in
-    (tabled-within (c.requires.of_tree _ f.tree f.stands).1).0
+    (_, _, (c.requires.of_tree _ f.tree f.stands).1)
 
 pub overflow_sub-start : goal.overflow_sub-start
 overflow_sub-start c =
