@@ -3,4 +3,4 @@ pub mod Merging
 pub mod Together
 pub mod Given
 pub mod Merges
-pub mod Numbers
+pub mod MergedNodes

@@ -1,9 +1,8 @@
 // Merge of a frame with a held one.
 ghost use Rattle.std.specs.Prelude.{length};
-ghost use Rattle.plan_reader.specs.Plans.{HoldsFrame};
-ghost use Rattle.call_merge.specs.Given.{GivenFrame};
+ghost use Rattle.call_merge.specs.Given.{BothFrames};
 ghost use Rattle.call_merge.specs.Merges.{MergedIs};
-ghost use Rattle.call_merge.specs.Numbers.{MergedAt};
+ghost use Rattle.call_merge.specs.MergedNodes.{MergedAt};
 
 use super::given::{Frames, PlacedFrame, TwoFrames};
 use super::limits::over_limits;
@@ -21,16 +20,15 @@ pub fn merge_held(
     parts: Frames,
     held: usize,
 ) -> Result<Loaded, Refusal>
-    requires holds_frame { HoldsFrame n plan.old parts.old }
-    requires given_frame { GivenFrame frame.now parts.new }
+    requires { BothFrames n plan.old frame.now parts }
     ensures { MergedIs frame.now n plan.old scratch.old plan.new scratch.new held result
-        × ((h : HoldsFrame n plan.old parts.old) (g : GivenFrame frame.now parts.new)
-        → MergedAt h.frame g.frame parts.old parts.new n (length frame.now) plan.new result) }
+        × ((b : BothFrames n plan.old frame.now parts)
+        → MergedAt b.held.frame b.given.frame parts.old parts.new n (length frame.now) plan.new result) }
 {
     let old = parts.old;
     let new = parts.new;
     let m = frame.len();
-    let over = over_limits(n, m, old, new);
+    let over = over_limits(n, m, parts);
     if over {
         return Err(Refusal::MergedTooLarge);
     }

@@ -6,4 +6,4 @@ pub mod given;
 pub mod held_frame;
 pub mod limits;
 pub mod merged_frames;
-pub mod merged_numbers;
+pub mod merged_nodes;

@@ -22,13 +22,13 @@ use Rattle.theorems.proofs.NodeTables.{table-nests-by}
 use Rattle.theorems.proofs.Merged.{merged-length, merged-nodes, merged-records, over-sums, within-limits, good-merged}
 use Rattle.frame_reader.specs.Frames.{FrameAt}
 use Rattle.frame_reader.specs.declared.frame_bodies.Frame as places
-use Rattle.plan_reader.specs.Plans.{HoldsFrame}
 use Rattle.byte_writer.specs.Writing.{Room, Puts}
 use Rattle.call_merge.specs.Merging.{FramesAt, merged_frame}
+use Rattle.call_merge.specs.declared.given.Frames.{Frames}
 use Rattle.call_merge.specs.Together.{Counts, over_together}
-use Rattle.call_merge.specs.Given.{GivenFrame}
+use Rattle.call_merge.specs.Given.{BothFrames}
 use Rattle.call_merge.specs.Merges.{MergedIs}
-use Rattle.call_merge.specs.Numbers.{Merged}
+use Rattle.call_merge.specs.MergedNodes.{Merged}
 use Rattle.terms.specs.declared.refusals.Refusal.TheVariants.{BufferTooShort, MergedTooLarge, TableTooShort}
 use Rattle.call_answers.proofs.Refusing.{merge-ends, merge-call, outcome}
 use Rattle.call_merge.proofs.held_frame.Standing.{at-root, table-there, few-bytes, few-nodes}
@@ -38,7 +38,6 @@ use Rattle.call_answers.proofs.Keeping.{held-is, plan-size, plan-length, kept, k
 record Within (size : ℕ) (f : places.Frame) : Type 0 where
   bytes : size ≤ 16384
   nodes : f.nodes ≤ 1024
-  depth : f.depth ≤ 64
   records : f.columns ≤ 256
 
 within : (s : List ℕ) (f : places.Frame) (F : Frame) → FrameAt s f (length s) F → (length (frame_bytes F) ≡ length s) × GoodPlan (held F)
@@ -47,53 +46,50 @@ unfolding plan_bytes plan_nodes
 within s f F h g = record {
   bytes = omega (arith, g.0, g.1.few_bytes);
   nodes = omega (arith, h.sized, g.1.few_nodes);
-  depth = omega (arith, h.deep, g.1.readable.expr.shallow);
   records = omega (arith, h.counted, g.1.readable.few);
 }
 
 -- Both frames, where they stand.
-pub record Both (frame : List ℕ) (n : ℕ) (before : List ℕ) (f g : places.Frame) : Type 0 where
-  pub held : HoldsFrame n before f
-  pub given : GivenFrame frame g
+pub record Both (frame : List ℕ) (n : ℕ) (before : List ℕ) (p : Frames) : Type 0 where
+  pub frames : BothFrames n before frame p
   pub bytes : AllBytes before
   pub frame_bytes : AllBytes frame
 
-module _ {frame : List ℕ} {n : ℕ} {before : List ℕ} {f g : places.Frame} (b : Both frame n before f g) where
+module _ {frame : List ℕ} {n : ℕ} {before : List ℕ} {p : Frames} (b : Both frame n before p) where
   abbrev old : Frame
-  old = b.held.frame
+  old = b.frames.held.frame
 
   abbrev new : Frame
-  new = b.given.frame
+  new = b.frames.given.frame
 
   abbrev M : Frame
   M = merge_frames old new
 
   good_old : (length (frame_bytes old) ≡ n) × GoodPlan (held old)
   unfolding plan_bytes
-  good_old = plan-size n before b.held.fits b.bytes b.held.is
+  good_old = plan-size n before b.frames.held.fits b.bytes b.frames.held.is
 
   good_new : (length (frame_bytes new) ≡ length frame) × GoodPlan (held new)
-  good_new = let back = frame_back frame new b.frame_bytes b.given.is in (ap length (sym back.0), back.1)
+  good_new = let back = frame_back frame new b.frame_bytes b.frames.given.is in (ap length (sym back.0), back.1)
 
-  pub counts : Counts n (length frame) f g
+  pub counts : Counts n (length frame) p.old p.new
   counts =
-      let held-length = plan-length n before b.held.fits in
-      let x = within (take n before) f old b.held.stands (good_old.0 ∙ sym held-length, good_old.1) in
-      let y = within frame g new b.given.stands good_new in
+      let held-length = plan-length n before b.frames.held.fits in
+      let x = within (take n before) p.old old b.frames.held.stands (good_old.0 ∙ sym held-length, good_old.1) in
+      let y = within frame p.new new b.frames.given.stands good_new in
       record {
         bytes = (omega (arith, x.bytes, held-length), y.bytes);
         nodes = (x.nodes, y.nodes);
-        depth = (x.depth, y.depth);
         records = (x.records, y.records);
       }
 
   -- The counts of both frames tell whether the merged one is over a limit.
-  over : over_limits M ≡ over_together n (length frame) f g
+  over : over_limits M ≡ over_together n (length frame) p
   over =
-      let x = b.held.stands in
-      let y = b.given.stands in
+      let x = b.frames.held.stands in
+      let y = b.frames.given.stands in
       over-sums old new
-      ∙ rw (good_old.0, good_new.0, ← x.sized, ← y.sized, ← x.deep, ← y.deep, ← x.counted, ← y.counted) refl
+      ∙ rw (good_old.0, good_new.0, ← x.sized, ← y.sized, ← b.frames.deep, ← x.counted, ← y.counted) refl
 
   -- Merged, they are one byte shorter than both.
   pub not-empty : 1 ≤ n + length frame
@@ -103,16 +99,16 @@ module _ {frame : List ℕ} {n : ℕ} {before : List ℕ} {f g : places.Frame} (
   size_of = omega (arith, merged-length old new, good_old.0, good_new.0)
 
   -- Its nodes, and where its expression begins.
-  pub node-count : nodes M.expr ≡ f.nodes + g.nodes + 1
-  node-count = omega (arith, merged-nodes old new, b.held.stands.sized, b.given.stands.sized)
+  pub node-count : nodes M.expr ≡ p.old.nodes + p.new.nodes + 1
+  node-count = omega (arith, merged-nodes old new, b.frames.held.stands.sized, b.frames.given.stands.sized)
 
-  pub root-there : f.root + g.root ≡ 6 + 5 * length M.records
+  pub root-there : p.old.root + p.new.root ≡ 6 + 5 * length M.records
   root-there =
       omega (
         arith,
-        b.held.stands.expr.bytes.ends,
-        b.given.stands.expr.bytes.ends,
-        plan-length n before b.held.fits,
+        b.frames.held.stands.expr.bytes.ends,
+        b.frames.given.stands.expr.bytes.ends,
+        plan-length n before b.frames.held.fits,
         good_old.0,
         good_new.0,
         frame-length old,
@@ -121,14 +117,14 @@ module _ {frame : List ℕ} {n : ℕ} {before : List ℕ} {f g : places.Frame} (
       )
 
   -- Both begin within their frames.
-  pub root-bounds : (6 ≤ f.root + g.root) × (f.root + g.root ≤ 32768)
+  pub root-bounds : (6 ≤ p.old.root + p.new.root) × (p.old.root + p.new.root ≤ 32768)
   root-bounds = (
     omega (arith, root-there),
     omega (
       arith,
-      b.held.stands.expr.bytes.ends,
-      b.given.stands.expr.bytes.ends,
-      plan-length n before b.held.fits,
+      b.frames.held.stands.expr.bytes.ends,
+      b.frames.given.stands.expr.bytes.ends,
+      plan-length n before b.frames.held.fits,
       counts.bytes,
     ),
   )
@@ -141,17 +137,17 @@ module _ {frame : List ℕ} {n : ℕ} {before : List ℕ} {f g : places.Frame} (
         (if over then refused 16 else if room then (if places then ok M else refused 17) else refused 9)
     unfolding new_after_merge merged_or_not tabled
     by_tests table over room places e t u =
-        outcome (merge-call table frame new b.given.is) n before scratch (held-is n before b.held.fits b.held.is)
+        outcome (merge-call table frame new b.frames.given.is) n before scratch (held-is n before b.frames.held.fits b.frames.held.is)
         (ap₂ (λ (x y : Bool). if x then refused 16 else if y then tabled (length table) M else refused 9) e t
         ∙ ap (λ (z : Bool). if over then refused 16 else if room then (if z then ok M else refused 17) else refused 9) u)
 
-    pub too_large : true ≡ over_together n (length frame) f g
+    pub too_large : true ≡ over_together n (length frame) p
         → MergedIs frame n before scratch before scratch lent (Err MergedTooLarge)
     unfolding with_table finish filled_by
     too_large t =
         λ table size. by_tests table true _ _ (over ∙ sym t) refl refl
 
-    module _ (under : false ≡ over_together n (length frame) f g) where
+    module _ (under : false ≡ over_together n (length frame) p) where
       pub scratch-short : length scratch < n → MergedIs frame n before scratch before scratch lent (Err BufferTooShort)
       unfolding with_table finish filled_by
       scratch-short s =
@@ -179,7 +175,7 @@ module _ {frame : List ℕ} {n : ℕ} {before : List ℕ} {f g : places.Frame} (
           by-table table y u =
               by-room table true y (le-leb (length (frame_bytes M)) (length before) (omega (arith, size_of, room))) u
 
-          pub table-short : lent < f.nodes + g.nodes + 1
+          pub table-short : lent < p.old.nodes + p.new.nodes + 1
               → MergedIs frame n before scratch before scratch lent (Err TableTooShort)
           unfolding with_table finish filled_by
           table-short s =
@@ -187,33 +183,33 @@ module _ {frame : List ℕ} {n : ℕ} {before : List ℕ} {f g : places.Frame} (
               by-table table false (lt-leb (nodes M.expr) (length table) (omega (arith, node-count, size, s)))
 
 -- Limits and room allow it, and the old plan is copied to the scratch.
-pub record Ready (frame : List ℕ) (n : ℕ) (before scratch : List ℕ) (f g : places.Frame) (lent : ℕ) (copy : List ℕ) : Type 0 where
-  pub both : Both frame n before f g
-  pub under : false ≡ over_together n (length frame) f g
+pub record Ready (frame : List ℕ) (n : ℕ) (before scratch : List ℕ) (p : Frames) (lent : ℕ) (copy : List ℕ) : Type 0 where
+  pub both : Both frame n before p
+  pub under : false ≡ over_together n (length frame) p
   pub enough : n ≤ length scratch
   pub room : n + length frame - 1 ≤ length before
-  pub tabled : f.nodes + g.nodes + 1 ≤ lent
+  pub tabled : p.old.nodes + p.new.nodes + 1 ≤ lent
   pub copied : copy ≡ take n (drop 0 before) ++ drop n scratch
 
-module _ {frame : List ℕ} {n : ℕ} {before scratch : List ℕ} {f g : places.Frame} {lent : ℕ} {copy : List ℕ}
-    (r : Ready frame n before scratch f g lent copy) where
+module _ {frame : List ℕ} {n : ℕ} {before scratch : List ℕ} {p : Frames} {lent : ℕ} {copy : List ℕ}
+    (r : Ready frame n before scratch p lent copy) where
   there : take n copy ≡ take n before
-  there = kept n before r.both.held.fits scratch copy r.copied
+  there = kept n before r.both.frames.held.fits scratch copy r.copied
 
   abbrev pair : Frame × Frame
-  pair = (r.both.held.frame, r.both.given.frame)
+  pair = (r.both.frames.held.frame, r.both.frames.given.frame)
 
   -- Both frames stand where the writer looks.
-  frames-there : FramesAt (take n copy) f frame g pair
-  frames-there = record { one = rw there r.both.held.stands; two = r.both.given.stands }
+  frames-there : FramesAt (take n copy) p.old frame p.new pair
+  frames-there = record { one = rw there r.both.frames.held.stands; two = r.both.frames.given.stands }
 
   fits : length (merged_frame pair) ≤ length before
   fits = omega (arith, size_of r.both, r.room)
 
-  few : f.columns + g.columns ≤ 256
+  few : p.old.columns + p.new.columns ≤ 256
   few =
-      let x = r.both.held.stands in
-      let y = r.both.given.stands in
+      let x = r.both.frames.held.stands in
+      let y = r.both.frames.given.stands in
       omega (
         arith,
         (within-limits (merge_frames pair.0 pair.1) (over r.both ∙ sym r.under)).3,
@@ -222,16 +218,16 @@ module _ {frame : List ℕ} {n : ℕ} {before scratch : List ℕ} {f g : places.
         y.counted,
       )
 
-  pub merged-room : Room (FramesAt (take n copy) f frame g) merged_frame 0 before × (f.columns + g.columns ≤ 256)
+  pub merged-room : Room (FramesAt (take n copy) p.old frame p.new) merged_frame 0 before × (p.old.columns + p.new.columns ≤ 256)
   merged-room = (record { it = pair; stands = frames-there; room = omega (arith, fits) }, few)
 
   -- The merged frame is good, and its bytes stand at the start of what is written.
   good-there : GoodPlan (held (M r.both))
   good-there = good-merged pair.0 pair.1 (good_old r.both).1 (good_new r.both).1 (over r.both ∙ sym r.under)
 
-  pub merges : (written : List ℕ) (answer root : ℕ) → root ≡ f.root + g.root - 3
-      → Puts (FramesAt (take n copy) f frame g) merged_frame before written answer
-      → MergedIs frame n before scratch written copy lent (Ok (record { length = answer; root = root; count = f.nodes + g.nodes + 1 }))
+  pub merges : (written : List ℕ) (answer root : ℕ) → root ≡ p.old.root + p.new.root - 3
+      → Puts (FramesAt (take n copy) p.old frame p.new) merged_frame before written answer
+      → MergedIs frame n before scratch written copy lent (Ok (record { length = answer; root = root; count = p.old.nodes + p.new.nodes + 1 }))
   unfolding with_table finish filled_by written_over
   merges written answer root at put = (
     node_table (M r.both),
@@ -243,19 +239,19 @@ module _ {frame : List ℕ} {n : ℕ} {before scratch : List ℕ} {f g : places.
         ∙ rw (
           ← (put.wrote pair frames-there),
           ← (put.size pair frames-there),
-          kept-over n before r.both.held.fits scratch copy r.copied,
+          kept-over n before r.both.frames.held.fits scratch copy r.copied,
           (table-nests-by (M r.both)).0,
           node-count r.both,
         ) refl,
   )
 
-  -- Where it stands and ends, for the numbers of its nodes.
-  pub merged-there : (written : List ℕ) (answer root : ℕ) → root ≡ f.root + g.root - 3
-      → Puts (FramesAt (take n copy) f frame g) merged_frame before written answer
-      → Merged pair.0 pair.1 f g n (length frame) written (record { length = answer; root = root; count = f.nodes + g.nodes + 1 })
+  -- Where it stands and ends, for the records of its nodes.
+  pub merged-there : (written : List ℕ) (answer root : ℕ) → root ≡ p.old.root + p.new.root - 3
+      → Puts (FramesAt (take n copy) p.old frame p.new) merged_frame before written answer
+      → Merged pair.0 pair.1 p.old p.new n (length frame) written (record { length = answer; root = root; count = p.old.nodes + p.new.nodes + 1 })
   merged-there written answer root at put =
-      let x = r.both.held.stands in
-      let y = r.both.given.stands in
+      let x = r.both.frames.held.stands in
+      let y = r.both.frames.given.stands in
       record {
         stands = at-root (M r.both) _ good-there (put.wrote pair frames-there) (omega (arith, at, root-there r.both));
         begins = omega (arith, at, root-bounds r.both);
@@ -263,10 +259,10 @@ module _ {frame : List ℕ} {n : ℕ} {before scratch : List ℕ} {f g : places.
         size = omega (arith, put.size pair frames-there, merged-length pair.0 pair.1, (good_old r.both).0, (good_new r.both).0);
         count = refl;
         roots = (
-          omega (arith, (good_old r.both).0, frame-length pair.0, x.expr.bytes.ends, plan-length n before r.both.held.fits),
+          omega (arith, (good_old r.both).0, frame-length pair.0, x.expr.bytes.ends, plan-length n before r.both.frames.held.fits),
           omega (arith, (good_new r.both).0, frame-length pair.1, y.expr.bytes.ends),
         );
-        old_end = omega (arith, x.expr.bytes.ends, plan-length n before r.both.held.fits);
+        old_end = omega (arith, x.expr.bytes.ends, plan-length n before r.both.frames.held.fits);
         sized = (x.sized, y.sized);
         short = omega (arith, put.size pair frames-there, few-bytes (M r.both) good-there);
         few = omega (arith, node-count r.both, few-nodes (M r.both) good-there);

@@ -1,5 +1,6 @@
 -- Each refusal is the definition's; a held frame is merged.
 use Prim.Native.Nat.{ℕ, ◌≤◌}
+use native.Mathlib.Omega.{arith}
 use mathlib.Core.Path.{◌≡◌, refl}
 use mathlib.Core.List.{List}
 use lib.ListN.{length, take}
@@ -13,7 +14,7 @@ use Rattle.terms.specs.declared.refusals.Refusal.{Refusal}
 use Rattle.node_reader.proofs.Reading.{kept}
 use Rattle.plan_reader.specs.Plans.{NotHeld, no_bytes, no_good}
 use Rattle.call_answers.proofs.Refusing.{merge-call, merge-refuses, no-room-for-n, no-plan, empty-plan, extracted-before}
-use Rattle.call_merge.proofs.JoinLaws.{both-join, both_have}
+use Rattle.call_merge.proofs.JoinLaws.{held_room, both-nodes, both-frames, both-join, both_have}
 use Rattle.call_merge.proofs.call.merge_good.Goals as goal
 
 -- Where neither a frame nor an extraction is held.
@@ -30,7 +31,7 @@ unfolding new_after_merge
 returns-then-plan-n g c =
     let a = c.args in (
       λ table size.
-          no-room-for-n (merge-call table a.new.bytes.now _ c.requires.given.given.is) a.n a.plan.now a.scratch.now c.if-plan-n.true,
+          no-room-for-n (merge-call table a.new.tree.bytes.now _ c.requires.given.given.is) a.n a.plan.now a.scratch.now c.if-plan-n.true,
       tt,
     )
 
@@ -39,7 +40,7 @@ returns-in_err-held_plan_in g c =
     let a = c.args in
     rw (kept c.from_residual.ensures) (
       λ table size.
-          not-held a.new.bytes.now _ c.requires.given.given.is a.n a.plan.now a.scratch.now c.if-plan-n.false
+          not-held a.new.tree.bytes.now _ c.requires.given.given.is a.n a.plan.now a.scratch.now c.if-plan-n.false
           c.in_err-held_plan_in.ensures table,
       tt,
     )
@@ -53,15 +54,36 @@ returns-in-Extraction g c =
       tt,
     )
 
-pub put_numbers-requires : goal.put_numbers-requires
-put_numbers-requires g c =
-    both-join (rw c.in-Frame.is at c.in_ok-held_plan_in.ensures) c.if-plan-n.false c.requires.given c.in_ok-merged-in-Frame.ensures.1 _
-    (rw c.requires.row_length c.requires.places.0)
+pub shared_whole_as_front-rows : goal.shared_whole_as_front-rows
+shared_whole_as_front-rows g c = (
+  omega (
+    arith,
+    c.held_plan_in.auto.row,
+    held_room c.args.plan.now c.held_plan_in.new.row (rw c.in-Frame.is at c.in_ok-held_plan_in.ensures) c.if-plan-n.false
+        c.requires.given,
+  ),
+  omega (arith, c.requires.places.1),
+)
+
+pub joined_depth-requires : goal.joined_depth-requires
+joined_depth-requires g c =
+    both-nodes c.args.plan.now c.held_plan_in.new.row (rw c.in-Frame.is at c.in_ok-held_plan_in.ensures) c.if-plan-n.false
+    c.requires.given
+
+pub merge_held-requires : goal.merge_held-requires
+merge_held-requires g c =
+    both-frames c.args.plan.now c.held_plan_in.new.row (rw c.in-Frame.is at c.in_ok-held_plan_in.ensures) c.if-plan-n.false
+    c.requires.given c.joined_depth.ensures
+
+pub put_joined-requires : goal.put_joined-requires
+put_joined-requires g c =
+    both-join c.args.plan.now c.held_plan_in.new.row (rw c.in-Frame.is at c.in_ok-held_plan_in.ensures) c.if-plan-n.false
+    c.requires.given c.joined_depth.ensures c.in_ok-merged-in-Frame.ensures.1 _ (rw c.requires.row_length c.requires.places.0)
 
 pub returns-in_ok-merged-in-Frame : goal.returns-in_ok-merged-in-Frame
 returns-in_ok-merged-in-Frame g c =
     let merged = c.in_ok-merged-in-Frame.ensures in (
       merged.0,
-      both_have (rw c.in-Frame.is at c.in_ok-held_plan_in.ensures) c.if-plan-n.false c.requires.given merged.1 _ _
-          c.put_numbers.ensures,
+      both_have c.args.plan.now c.held_plan_in.new.row (rw c.in-Frame.is at c.in_ok-held_plan_in.ensures) c.if-plan-n.false
+          c.requires.given c.joined_depth.ensures merged.1 c.args.row.now c.put_joined.new.row c.put_joined.ensures,
     )

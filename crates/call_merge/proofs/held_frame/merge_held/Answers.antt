@@ -5,8 +5,7 @@ use mathlib.Core.Path.{◌≡◌, refl, sym, ◌∙◌}
 use mathlib.Core.Bool.{false}
 use lib.ListN.{length}
 use Rattle.node_reader.proofs.Standing.{all-bytes}
-use Rattle.plan_reader.specs.Plans.{HoldsFrame}
-use Rattle.call_merge.specs.Given.{GivenFrame}
+use Rattle.call_merge.specs.Given.{BothFrames}
 use Rattle.call_merge.specs.Together.{over_together}
 use Rattle.call_merge.proofs.held_frame.Merging.{Both, counts, not-empty, root-bounds, too_large, scratch-short, plan-short, table-short, Ready, merged-room, merges, merged-there}
 use Rattle.call_merge.proofs.held_frame.merge_held.Goals as goal
@@ -14,11 +13,10 @@ use Rattle.call_merge.proofs.held_frame.merge_held.Goals.{After-copy_bytes, Afte
 
 -- Both frames stand there.
 both : (c : After-shared_slice_known-1)
-    → let a = c.args in Both a.frame.now a.n a.plan.now a.parts.old a.parts.new
+    → let a = c.args in Both a.frame.now a.n a.plan.now a.parts
 both c =
     record {
-      held = c.requires.holds_frame;
-      given = c.requires.given_frame;
+      frames = c.requires;
       bytes = all-bytes c.args.plan.now c.slice_known-1.given;
       frame_bytes = all-bytes c.args.frame.now c.shared_slice_known-1.given;
     }
@@ -35,17 +33,16 @@ roots c = root-bounds (both c)
 
 -- The limits, where they are not passed.
 under : (c : After-over_limits-over) → c.over_limits-over.result ≡ false
-    → let a = c.args in false ≡ over_together a.n (length a.frame.now) a.parts.old a.parts.new
+    → let a = c.args in false ≡ over_together a.n (length a.frame.now) a.parts
 under c e = sym e ∙ c.over_limits-over.ensures
 
 -- Limits and room allow it, and the old plan is kept, whatever says that both frames stand there.
-ready_by : (c : After-copy_bytes) → let a = c.args in (h : HoldsFrame a.n a.plan.now a.parts.old) (g : GivenFrame a.frame.now a.parts.new)
-    → Ready a.frame.now a.n a.plan.now a.scratch.now a.parts.old a.parts.new a.held c.copy_bytes.new.out
-ready_by c h g =
+ready_by : (c : After-copy_bytes) → let a = c.args in BothFrames a.n a.plan.now a.frame.now a.parts
+    → Ready a.frame.now a.n a.plan.now a.scratch.now a.parts a.held c.copy_bytes.new.out
+ready_by c b =
     record {
       both = (record {
-        held = h;
-        given = g;
+        frames = b;
         bytes = all-bytes c.args.plan.now c.slice_known-1.given;
         frame_bytes = all-bytes c.args.frame.now c.shared_slice_known-1.given;
       });
@@ -58,8 +55,8 @@ ready_by c h g =
 
 ready : (c : After-copy_bytes)
     → let a = c.args in
-    Ready a.frame.now a.n a.plan.now a.scratch.now a.parts.old a.parts.new a.held c.copy_bytes.new.out
-ready c = ready_by c c.requires.holds_frame c.requires.given_frame
+    Ready a.frame.now a.n a.plan.now a.scratch.now a.parts a.held c.copy_bytes.new.out
+ready c = ready_by c c.requires
 
 pub over_limits-over-requires : goal.over_limits-over-requires
 over_limits-over-requires c =
@@ -68,14 +65,14 @@ over_limits-over-requires c =
 pub returns-then-over : goal.returns-then-over
 returns-then-over c = (
   too_large (both (goal.at.returns-then-over c).After-shared_slice_known-1) _ _ (sym c.if-over.true ∙ c.over_limits-over.ensures),
-  λ h g. tt,
+  λ b. tt,
 )
 
 pub returns-then-scratch-n : goal.returns-then-scratch-n
 returns-then-scratch-n c = (
   scratch-short (both (goal.at.returns-then-scratch-n c).After-shared_slice_known-1) _ _
       (under (goal.at.returns-then-scratch-n c).After-over_limits-over c.if-over.false) c.if-scratch-n.true,
-  λ h g. tt,
+  λ b. tt,
 )
 
 pub overflow_sub-n : goal.overflow_sub-n
@@ -88,7 +85,7 @@ returns-then-plan-n c = (
       (under (goal.at.returns-then-plan-n c).After-over_limits-over c.if-over.false)
       (omega (arith, c.if-scratch-n.false))
       c.if-plan-n.true,
-  λ h g. tt,
+  λ b. tt,
 )
 
 pub returns-then-held-count : goal.returns-then-held-count
@@ -97,7 +94,7 @@ returns-then-held-count c = (
       (under (goal.at.returns-then-held-count c).After-over_limits-over c.if-over.false)
       (omega (arith, c.if-scratch-n.false))
       (omega (arith, c.if-plan-n.false)) c.if-held-count.true,
-  λ h g. tt,
+  λ b. tt,
 )
 
 pub overflow_sub-root : goal.overflow_sub-root
@@ -114,5 +111,5 @@ returns c =
     let wrote = c.put_merged-length in
     let after = (goal.at.returns c).After-copy_bytes in (
       merges (ready after) wrote.new.out wrote.result _ refl wrote.ensures,
-      λ h g. merged-there (ready_by after h g) wrote.new.out wrote.result _ refl wrote.ensures,
+      λ b. merged-there (ready_by after b) wrote.new.out wrote.result _ refl wrote.ensures,
     )
