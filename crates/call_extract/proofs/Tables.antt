@@ -1,12 +1,11 @@
--- When a table begins with a frame's records: its numbers tell.
+-- When a table begins with a frame's records.
 use Rattle.std.specs.Prelude.{if◌then◌else◌}
-use Prim.Native.Nat.{ℕ, zero, suc, ◌+◌, ◌*◌, ◌≤◌, ◌<◌}
+use Prim.Native.Nat.{ℕ, ◌+◌, ◌*◌, ◌≤◌, ◌<◌}
 use native.Mathlib.Omega.{arith}
 use mathlib.Core.Path.{◌≡◌, refl, sym, ap, ◌∙◌}
 use mathlib.Core.Bool.{Bool, true, false}
-use mathlib.Core.List.{List, [], ◌∷◌, map}
-use lib.ListN.{length, take, get_or, length-take}
-use lib.Seq.{get_or-take}
+use mathlib.Core.List.{List}
+use lib.ListN.{length, take, length-map}
 use borrow.Author.Tests.{lt-leb}
 use Rattle.definitions.specs.Words.Basics.{Result, ok, refused}
 use Rattle.definitions.specs.Words.Expression as tree
@@ -19,7 +18,6 @@ use Rattle.definitions.specs.Calls.Base.{table_fits, finish, held_plan, extract_
 use Rattle.theorems.proofs.ExchangeGood.{frame-length}
 use Rattle.theorems.proofs.NodeTables.{node-count, begins-exactly-by}
 use Rattle.frame_reader.specs.declared.frame_bodies.Frame.{Frame}
-use Rattle.expression.proofs.Placed.{fits}
 use Rattle.frame_reader.proofs.Standing.{expr-stands}
 use Rattle.plan_reader.specs.Plans.{HoldsFrame, NotHeld, no_bytes, no_good}
 use Rattle.call_answers.proofs.Keeping.{held-is, plan-length, plan-size}
@@ -28,20 +26,13 @@ use Rattle.terms.specs.declared.refusals.Refusal.TheVariants.{NoGoodPlan, PlanEm
 use Rattle.call_answers.specs.Outcomes.{ExtractIs, unwalked}
 use Rattle.call_answers.specs.declared.answers.Extracted.{Extracted}
 use Rattle.call_answers.proofs.Walking.{bad-refused, empty-refused, extracted-refused}
-use Rattle.byte_writer.proofs.Written.{taken}
-use Rattle.node_rows.specs.Numbers.{number}
-use Rattle.node_rows.specs.Rows.{Tabled}
-use Rattle.node_rows.specs.Stores.{SameIs}
-use Rattle.node_rows.proofs.RowLaws.{numbers-length}
-use Rattle.node_rows.proofs.TableLaws.{nodes-told, numbers-tell}
-use Rattle.call_extract.specs.FrameRows.{Indexed}
+use Rattle.node_table.specs.Records.{node_of, nodes_of, BeginsIs}
+use Rattle.node_table.specs.declared.NodeRecord.{NodeRecord as Lent}
+use Rattle.node_table.proofs.Filling.{map-take}
+use Rattle.node_table.proofs.RecordLaws.{same-structs}
+use Rattle.call_extract.specs.FrameNodes.{Indexed}
 use Rattle.call_extract.specs.ExtractByTable.{ExtractsWith}
 use Rattle.std.proofs.lemmas.Bool.{false_from_ne_true}
-
-numbers-taken : (k : ℕ) (table : List NodeRecord) → take k (map number table) ≡ map number (take k table)
-numbers-taken zero table = refl
-numbers-taken (suc k) [] = refl
-numbers-taken (suc k) (t ∷ table) = ap (λ (l : List ℕ). number t ∷ l) (numbers-taken k table)
 
 -- ---- no frame is held
 
@@ -119,42 +110,23 @@ module _ (n : ℕ) (plan : List ℕ) {f : Frame} (h : HoldsFrame n plan f) (byte
       (λ e. never (sym ((begins-exactly-by (node_table h.frame) table).0 e) ∙ ap (λ (k : ℕ). take k table) counted))))
       (record { outcome = refl; carried = refl })
 
-  pub short-refused : (match : Matcher) (scratch : List ℕ) (table : List NodeRecord) → length table < f.nodes
-      → ExtractsWith match n plan scratch table plan scratch (unwalked NoGoodPlan)
-  short-refused match scratch table less =
-      refuted match scratch table (λ e. omega (arith, ap length e, counted, length-take f.nodes table))
+  -- Once it has the records of its own nodes.
+  module _ (nodes : List Lent) (indexed : Indexed n plan f nodes) (match : Matcher) (scratch : List ℕ) (table : List Lent) where
+    own : nodes_of nodes ≡ node_table h.frame
+    own = indexed _ h.frame.expr (expr-stands h.stands.expr) ∙ sym table_is
 
-  -- Once its own nodes are collected.
-  module _ {own next : List ℕ} (indexed : Indexed n plan f own next) where
-    its_own : Tabled own next f.root 0 h.frame.expr
-    its_own = indexed _ h.frame.expr (expr-stands h.stands.expr)
+    size : length nodes ≡ f.nodes
+    size = sym (length-map nodes node_of) ∙ ap length own ∙ counted
 
-    pub own-long : f.nodes ≤ length own
-    own-long = omega (arith, fits its_own.numbered, numbers-length f.root h.frame.expr, h.stands.sized)
+    pub same-fits : BeginsIs table nodes true → {after kept : List ℕ} {r : Extracted}
+        → Without match n plan scratch after kept r → ExtractsWith match n plan scratch (nodes_of table) after kept r
+    same-fits same is =
+        by-fit match n plan scratch (nodes_of table) true
+        (fits_by (nodes_of table) true
+        ((begins-exactly-by (node_table h.frame) (nodes_of table)).1
+        (ap (λ (k : ℕ). take k (nodes_of table)) (counted ∙ sym size) ∙ sym (map-take node_of (length nodes) table) ∙ ap nodes_of same ∙ own))) is
 
-    own-numbers : take f.nodes own ≡ map number (node_table h.frame)
-    own-numbers =
-        ap (λ (k : ℕ). take k own) (h.stands.sized ∙ sym (numbers-length f.root h.frame.expr))
-        ∙ taken its_own.numbered ∙ sym (ap (map number) table_is)
-
-    module _ (match : Matcher) (scratch : List ℕ) (table : List NodeRecord) where
-      pub same-fits : SameIs own (map number table) f.nodes true → {after kept : List ℕ} {r : Extracted}
-          → Without match n plan scratch after kept r → ExtractsWith match n plan scratch table after kept r
-      same-fits same is =
-          let alike : map number (nodes_from f.root h.frame.expr) ≡ map number (take f.nodes table) =
-          ap (map number) (sym table_is) ∙ sym own-numbers ∙ same ∙ numbers-taken f.nodes table in
-          let records : nodes_from f.root h.frame.expr ≡ take f.nodes table =
-          numbers-tell (nodes_from f.root h.frame.expr) (take f.nodes table)
-          (nodes-told f.root h.frame.expr its_own.short) alike in
-          by-fit match n plan scratch table true
-          (fits_by table true
-          ((begins-exactly-by (node_table h.frame) table).1 (sym (table_is ∙ records ∙ ap (λ (k : ℕ). take k table) (sym counted))))) is
-
-      pub other-refused : SameIs own (map number table) f.nodes false
-          → ExtractsWith match n plan scratch table plan scratch (unwalked NoGoodPlan)
-      other-refused differ = refuted match scratch table
-          (λ e.
-          let same : take f.nodes own ≡ take f.nodes (map number table) =
-          own-numbers ∙ ap (map number) e ∙ sym (numbers-taken f.nodes table) in
-          differ.2 (sym (get_or-take f.nodes own differ.0 0 differ.1)
-          ∙ ap (λ (l : List ℕ). get_or l differ.0 0) same ∙ get_or-take f.nodes (map number table) differ.0 0 differ.1))
+    pub other-refused : BeginsIs table nodes false → ExtractsWith match n plan scratch (nodes_of table) plan scratch (unwalked NoGoodPlan)
+    other-refused differ = refuted match scratch (nodes_of table)
+        (λ e. differ (same-structs (take (length nodes) table) nodes
+        (map-take node_of (length nodes) table ∙ ap (λ (k : ℕ). take k (nodes_of table)) size ∙ sym e ∙ sym own)))

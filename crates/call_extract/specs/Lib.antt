@@ -1,5 +1,5 @@
 -- What the contracts cite: the extract of a frame and by a table.
 pub mod Extractions
-pub mod FrameRows
+pub mod FrameNodes
 pub mod ExtractByTable
 pub mod Settled

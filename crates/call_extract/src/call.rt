@@ -9,18 +9,17 @@ ghost use Rattle.call_answers.specs.Outcomes.{ExtractIs};
 ghost use Rattle.call_extract.specs.Settled.{HeldBy, SettledBy, filled_under, walk_under};
 
 use super::compared::extract_compared;
-use super::held_frame::{RowedFrame, extract_frame};
+use super::held_frame::{HeldFrame, extract_frame};
 use call_answers::answers::Extracted;
-use node_rows::lengths::{MIDDLE_BYTES, MIDDLE_NODES, MOST_NODES, SHORT_BYTES, SHORT_NODES};
-use node_rows::rows::Rows;
-use node_table::NodeRecord;
+use filter_tree::lengths::{MIDDLE_BYTES, MIDDLE_NODES, MOST_NODES, SHORT_BYTES, SHORT_NODES};
+use node_table::{NO_RECORD, NodeRecord};
 use plan_reader::extraction_bodies::Held;
 use plan_reader::held_plans::held_plan_in;
 use terms::checked::Checked;
 use terms::refusals::Refusal;
 use terms::settings::Settings;
 
-// What is held, whose nodes go into rows of N places if it is a frame: it has no more. A table, if one is lent, has to have them too.
+// What is held, whose nodes go into a row of N places if it is a frame: it has no more. A table, if one is lent, has to have them too.
 fn extract_held<const N: usize>(
     plan: &mut [u8],
     n: usize,
@@ -32,18 +31,14 @@ fn extract_held<const N: usize>(
     requires row_length { (min most_nodes (n / 3) ≤ N) × (N ≤ most_nodes) }
     ensures { HeldBy (match_under (settings_of settings.settings)) n table.entry plan.old scratch.old plan.new scratch.new result }
 {
-    let mut numbers = [0u32; N];
-    let mut next = [0u16; N];
-    let frame = match held_plan_in(&mut numbers, &mut next, &plan[..n]) {
+    let mut row = [NO_RECORD; N];
+    let frame = match held_plan_in(&mut row, &plan[..n]) {
         Err(why) => return Extracted::refused(why),
         Ok(Held::Extraction(_)) => return Extracted::refused(Refusal::AlreadyExtracted),
         Ok(Held::Frame(frame)) => frame,
     };
-    let rows = Rows {
-        numbers: &numbers,
-        next: &next,
-    };
-    let held = RowedFrame { frame, rows };
+    let nodes = &row[..frame.nodes];
+    let held = HeldFrame { frame, nodes };
     match table {
         Some(table) => extract_compared(plan, n, scratch, held, table, settings),
         None => extract_frame(plan, n, scratch, held, settings),

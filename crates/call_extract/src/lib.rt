@@ -1,4 +1,4 @@
-// The call extract: of a held frame whose nodes are in rows, and by the numbers of a lent table.
+// The call extract: of a held frame by the records of its nodes, which a lent table has to begin with.
 #![tactic(auto)]
 
 pub mod by_table;

@@ -2,7 +2,8 @@
 use Rattle.std.specs.Prelude.{ℕ, ◌≡◌, List, ◌++◌, length, drop, Result, Ok, Err}
 use Rattle.definitions.specs.Bytes.NodeTable.{NodeRecord}
 use Rattle.expression.specs.Filling.{Records}
-use Rattle.node_rows.specs.Rows.{RowHas}
+use Rattle.node_table.specs.Records.{RowHas}
+use Rattle.node_table.specs.declared.NodeRecord.{NodeRecord as Lent}
 use Rattle.terms.specs.declared.refusals.Refusal.{Refusal}
 use Rattle.call_answers.specs.Outcomes.{LoadIs}
 use Rattle.call_answers.specs.declared.answers.Loaded.{Loaded}
@@ -16,7 +17,7 @@ LoadedIs frame before after held (Ok r) =
 LoadedIs frame before after held (Err why) =
     (table : List NodeRecord) → length table ≡ held → LoadIs frame before after table table (Err why)
 
--- The numbers of those records are the row's first.
-abbrev pub LoadedRow : (frame : List ℕ) → Result Loaded Refusal → (row : List ℕ) → Type 0
+-- Those records are the row's first.
+abbrev pub LoadedRow : (frame : List ℕ) → Result Loaded Refusal → (row : List Lent) → Type 0
 LoadedRow frame (Ok r) row = RowHas frame r.root r.count row
 LoadedRow frame (Err why) row = Unit {0}

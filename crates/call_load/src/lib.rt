@@ -1,30 +1,28 @@
 // The call load.
 #![tactic(auto)]
 
-ghost use Rattle.std.specs.Prelude.{◌/◌, ◌≤◌, ◌≡◌, min, length};
-ghost use Rattle.definitions.specs.Words.Limits.{most_nodes};
+ghost use Rattle.frame_reader.specs.Frames.{Roomy};
 ghost use Rattle.call_load.specs.Loads.{LoadedIs, LoadedRow};
 
 use byte_writer::copies::copy_bytes;
 use call_answers::answers::Loaded;
+use filter_tree::lengths::MOST_NODES;
 use frame_reader::frames::physical_frame_in;
-use node_rows::lengths::MOST_NODES;
+use node_table::{NO_RECORD, NodeRecord};
 use terms::refusals::Refusal;
 
 // Copies a good frame to the plan's start and gives its length; reads nothing of the old plan. `held` is how many records the table
-// has; its caller fills it with those of the row's first numbers, as many as the answer says. The row is lent, of N places, of which the
-// frame's nodes need no more.
-pub fn load_row<const N: usize>(
-    row: &mut [u32],
+// has; its caller fills it with the row's first records, as many as the answer says.
+pub fn load_row(
+    row: &mut [NodeRecord],
     plan: &mut [u8],
     frame: &[u8],
     held: usize,
 ) -> Result<Loaded, Refusal>
-    requires row_length { length row.old ≡ N }
-    requires places { (min most_nodes (length frame.now / 3) ≤ N) × (N ≤ most_nodes) }
+    requires { Roomy frame.now row.old }
     ensures { LoadedIs frame.now plan.old plan.new held result × LoadedRow frame.now result row.new }
 {
-    let f = physical_frame_in(row, &mut [0; N], frame)?;
+    let f = physical_frame_in(row, frame)?;
     let length = frame.len();
     let count = f.nodes;
     if plan.len() < length {
@@ -45,5 +43,5 @@ pub fn load_row<const N: usize>(
 pub fn load(plan: &mut [u8], frame: &[u8], held: usize) -> Result<Loaded, Refusal>
     ensures { LoadedIs frame.now plan.old plan.new held result }
 {
-    load_row::<MOST_NODES>(&mut [0; MOST_NODES], plan, frame, held)
+    load_row(&mut [NO_RECORD; MOST_NODES], plan, frame, held)
 }

@@ -5,7 +5,7 @@ use Prim.Native.Nat.{ℕ, ◌<◌, ◌≤◌}
 use native.Mathlib.Omega.{arith}
 use mathlib.Core.Path.{◌≡◌, refl, sym, ap, ◌∙◌, subst}
 use mathlib.Core.Bool.{true}
-use mathlib.Core.List.{List, [], ◌++◌, map}
+use mathlib.Core.List.{List, [], ◌++◌}
 use lib.ListN.{length, take, drop, replicate, length-replicate}
 use Rattle.definitions.specs.Words.Basics.{Result, ok, refused}
 use Rattle.definitions.specs.Bytes.NodeTable.{NodeRecord, blank}
@@ -24,21 +24,19 @@ use Rattle.call_answers.specs.Outcomes.{Answered, answer_of, LoadIs, ExtractIs, 
 use Rattle.call_answers.specs.declared.answers.Loaded.{Loaded}
 use Rattle.call_load.specs.Loads.{LoadedIs, LoadedRow}
 use Rattle.call_merge.specs.Merges.{MergedIs}
-use Rattle.call_merge.specs.Numbers.{MergedRow}
+use Rattle.call_merge.specs.MergedNodes.{MergedRow}
 use Rattle.call_answers.specs.declared.answers.Extracted.{Extracted}
 use Rattle.terms.specs.declared.refusals.Refusal.{Refusal}
 use Rattle.host_calls.specs.declared.cores.HostLoaded.{HostLoaded}
-use Rattle.node_rows.specs.Rows.{RowHas}
-use Rattle.node_rows.specs.Numbers.{number}
-use Rattle.node_rows.proofs.RowLaws.{nodes-below}
+use Rattle.filter_tree.proofs.NodeLaws.{nodes-below}
 use Rattle.expression.specs.Filling.{Records, nothing, filled}
 use Rattle.host_calls.proofs.CoreLaws.TableRoom.{load-keeps, merge_keeps, has_room}
 use Rattle.host_calls.specs.Short.{ShortLength, ShortLoaded, ShortWalk}
 use Rattle.host_calls.specs.Cores.{LeftBy, LoadLeft, MergeLeft}
 use Rattle.host_calls.specs.Hosted.{LoadHosted, MergeHosted}
-use Rattle.node_table.specs.Numbers.{numbered}
-use Rattle.node_table.specs.Records.{FilledIs}
-use Rattle.node_table.proofs.FillLaws.{filled-first}
+use Rattle.node_table.specs.Records.{nodes_of, RowHas, FilledIs}
+use Rattle.node_table.specs.declared.NodeRecord.{NodeRecord as Lent}
+use Rattle.node_table.proofs.RecordLaws.{filled-first}
 
 -- A table of so many records.
 some-table : ℕ → List NodeRecord
@@ -48,11 +46,11 @@ some-length : (held : ℕ) → length (some-table held) ≡ held
 unfolding some-table
 some-length held = length-replicate held blank
 
--- Of no record a row has all the numbers.
-none_has : (s row : List ℕ) → RowHas s 0 0 row
+-- A row has all of no record.
+none_has : (s : List ℕ) (row : List Lent) → RowHas s 0 0 row
 none_has s row = (omega arith, all)
   where
-    all : (records : List NodeRecord) → Records s 0 0 records → take 0 row ≡ map number records
+    all : (records : List NodeRecord) → Records s 0 0 records → take 0 (nodes_of row) ≡ records
     all records (nothing e) = refl
     all records (filled {t = t} stands size few short) = absurd (omega (arith, nodes-below t))
 
@@ -66,17 +64,17 @@ module _ (frame before after : List ℕ) (held : ℕ) where
   load-short (Err why) is bytes = tt
 
 -- What a call leaves in the row: nothing is asked of it after a refusal.
-left-has : (s row : List ℕ) (r : Either Loaded Refusal) (left : HostLoaded) → LeftBy r left
+left-has : (s : List ℕ) (row : List Lent) (r : Either Loaded Refusal) (left : HostLoaded) → LeftBy r left
     → ((l : Loaded) → r ≡ Ok l → RowHas s l.root l.count row) → RowHas s left.root left.count row
 left-has s row (Ok r) left by has = rw (by.1, by.2) (has r refl)
 left-has s row (Err why) left by has = rw (by.1, by.2) (none_has s row)
 
-pub row-left : (frame : List ℕ) (r : Either Loaded Refusal) (row : List ℕ) → LoadedRow frame r row → (left : HostLoaded) → LeftBy r left
+pub row-left : (frame : List ℕ) (r : Either Loaded Refusal) (row : List Lent) → LoadedRow frame r row → (left : HostLoaded) → LeftBy r left
     → RowHas frame left.root left.count row
 row-left frame r row has left by =
     left-has frame row r left by (λ l e. subst (λ (x : Either Loaded Refusal). LoadedRow frame x row) e has)
 
-pub merged-left : (after : List ℕ) (r : Either Loaded Refusal) (row : List ℕ) → MergedRow after r row → (left : HostLoaded) → LeftBy r left
+pub merged-left : (after : List ℕ) (r : Either Loaded Refusal) (row : List Lent) → MergedRow after r row → (left : HostLoaded) → LeftBy r left
     → RowHas after left.root left.count row
 merged-left after r row has left by =
     left-has after row r left by (λ l e. subst (λ (x : Either Loaded Refusal). MergedRow after x row) e has)
@@ -155,9 +153,13 @@ module _ (frame before after : List ℕ) {held : ℕ} (left : HostLoaded) (table
           by.0,
         )
 
-  pub load-fills : LoadLeft frame before after held left → (row : List ℕ) {put : List NodeRecord} → RowHas frame left.root left.count row
-      → put ≡ take left.count (map numbered row) ++ drop left.count table → LoadHosted frame before after table put left.answer
-  load-fills is row {put} has e = load-done (filled-first frame left.root left.count row table put has e) is.0 is.1 is.2 is.3
+-- By the structs of a table, of which the first become the row's.
+pub load-fills : (frame before after : List ℕ) {held : ℕ} (left : HostLoaded) (table : List Lent) → length (nodes_of table) ≡ held
+    → LoadLeft frame before after held left → (row put : List Lent) → RowHas frame left.root left.count row
+    → put ≡ take left.count row ++ drop (length (take left.count row)) table
+    → LoadHosted frame before after (nodes_of table) (nodes_of put) left.answer
+load-fills frame before after left table size is row put has e =
+    load-done frame before after left (nodes_of table) size (filled-first frame left.root left.count row table put has e) is.0 is.1 is.2 is.3
 
 -- A merge likewise; the records stand in the new plan.
 module _ (frame : List ℕ) (n : ℕ) (before scratch after kept : List ℕ) {held : ℕ} (left : HostLoaded)
@@ -203,8 +205,10 @@ module _ (frame : List ℕ) (n : ℕ) (before scratch after kept : List ℕ) {he
         (subst (λ (t : List NodeRecord). MergeIs (merge frame n before scratch table) n after kept t (Err why))
         (sym (so [] (nothing refl))) (is table size))
 
-  pub merge-fills : MergeLeft frame n before scratch after kept held left → (row : List ℕ) {put : List NodeRecord}
-      → RowHas after left.root left.count row → put ≡ take left.count (map numbered row) ++ drop left.count table
-      → MergeHosted frame before (merge frame n before scratch table) after kept put left.answer
-  merge-fills is row {put} has e =
-      merge-done (filled-first after left.root left.count row table put has e) is.0 is.1 is.2 is.3 is.4
+pub merge-fills : (frame : List ℕ) (n : ℕ) (before scratch after kept : List ℕ) {held : ℕ} (left : HostLoaded) (table : List Lent)
+    → length (nodes_of table) ≡ held → MergeLeft frame n before scratch after kept held left → (row put : List Lent)
+    → RowHas after left.root left.count row → put ≡ take left.count row ++ drop (length (take left.count row)) table
+    → MergeHosted frame before (merge frame n before scratch (nodes_of table)) after kept (nodes_of put) left.answer
+merge-fills frame n before scratch after kept left table size is row put has e =
+    merge-done frame n before scratch after kept left (nodes_of table) size
+    (filled-first after left.root left.count row table put has e) is.0 is.1 is.2 is.3 is.4

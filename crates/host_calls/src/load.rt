@@ -1,23 +1,17 @@
 // All of load but the table, the answer as a host gets it. Public for `spatialjoin_c`.
-ghost use Rattle.std.specs.Prelude.{◌/◌, ◌≤◌, ◌≡◌, min, length};
-ghost use Rattle.definitions.specs.Words.Limits.{most_nodes};
-ghost use Rattle.node_rows.specs.Rows.{RowHas};
+ghost use Rattle.frame_reader.specs.Frames.{Roomy};
+ghost use Rattle.node_table.specs.Records.{RowHas};
 ghost use Rattle.host_calls.specs.Cores.{LoadLeft};
 
 use super::cores::{HostLoaded, left_by};
 use call_load::load_row;
+use node_table::NodeRecord;
 
-// The numbers of these nodes are then the row's first.
-pub fn load_core<const N: usize>(
-    row: &mut [u32],
-    frame: &[u8],
-    plan: &mut [u8],
-    held: usize,
-) -> HostLoaded
-    requires row_length { length row.old ≡ N }
-    requires places { (min most_nodes (length frame.now / 3) ≤ N) × (N ≤ most_nodes) }
+// These nodes are then the row's first.
+pub fn load_core(row: &mut [NodeRecord], frame: &[u8], plan: &mut [u8], held: usize) -> HostLoaded
+    requires { Roomy frame.now row.old }
     ensures { LoadLeft frame.now plan.old plan.new held result
         × RowHas frame.now result.root result.count row.new }
 {
-    left_by(load_row::<N>(row, plan, frame, held))
+    left_by(load_row(row, plan, frame, held))
 }

@@ -1,15 +1,16 @@
 // All of merge but the table, the answer as a host gets it. Public for `spatialjoin_c`.
 ghost use Rattle.std.specs.Prelude.{◌+◌, ◌/◌, ◌≤◌, ◌≡◌, min, length};
 ghost use Rattle.definitions.specs.Words.Limits.{most_nodes};
-ghost use Rattle.node_rows.specs.Rows.{RowHas};
+ghost use Rattle.node_table.specs.Records.{RowHas};
 ghost use Rattle.host_calls.specs.Cores.{MergeLeft};
 
 use super::cores::{HostLoaded, left_by};
 use call_merge::call::merge_row;
+use node_table::NodeRecord;
 
-// The numbers of the new plan's nodes are then the row's first.
+// The new plan's nodes are then the row's first.
 pub fn merge_core<const N: usize>(
-    row: &mut [u32],
+    row: &mut [NodeRecord],
     frame: &[u8],
     plan: &mut [u8],
     n: usize,

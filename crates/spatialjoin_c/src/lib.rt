@@ -16,6 +16,10 @@ ghost use Rattle.spatialjoin_c.specs.Version.{version};
 ghost use Rattle.node_table.specs.Records.{nodes_of};
 ghost use Rattle.host_calls.specs.Hosted.{LoadHosted, CallHosted, settings_by, ExtractHosted, MergeHosted, PrintHosted, PutHosted, ServeHosted, AllHosted, ExplainHosted};
 
+use filter_tree::lengths::{
+    FEW_BYTES, FEW_NODES, FEWEST_BYTES, FEWEST_NODES, MANY_BYTES, MANY_NODES, MIDDLE_BYTES,
+    MIDDLE_NODES, MOST_NODES, SHORT_BYTES, SHORT_NODES,
+};
 use host_calls::exchange::exchange_number;
 use host_calls::explain::explain_number;
 use host_calls::extract::extract_number;
@@ -28,21 +32,17 @@ use host_calls::project::project_number;
 use host_calls::put::put_call_number;
 use host_calls::serve::serve_number;
 use host_calls::settings::host_settings;
-use node_rows::lengths::{
-    FEW_BYTES, FEW_NODES, FEWEST_BYTES, FEWEST_NODES, MANY_BYTES, MANY_NODES, MIDDLE_BYTES,
-    MIDDLE_NODES, MOST_NODES, SHORT_BYTES, SHORT_NODES,
-};
-use node_table::{NodeRecord, put_nodes};
+use node_table::{NO_RECORD, NodeRecord, put_nodes};
 
-// A load with a row of N places for the numbers of the frame's nodes, which are no more.
+// A load with a row of N places for the frame's nodes, which are no more.
 fn load_by<const N: usize>(frame: &[u8], plan: &mut [u8], table: &mut [NodeRecord]) -> i64
     requires { (min most_nodes (length frame.now / 3) ≤ N) × (N ≤ most_nodes) }
     ensures { LoadHosted frame.now plan.old plan.new (nodes_of table.old)
         (nodes_of table.new) result }
 {
-    let mut row = [0; N];
-    let loaded = load_core::<N>(&mut row, frame, plan, table.len());
-    put_nodes(table, &row, loaded.count);
+    let mut row = [NO_RECORD; N];
+    let loaded = load_core(&mut row, frame, plan, table.len());
+    put_nodes(table, &row[..loaded.count]);
     loaded.answer
 }
 
@@ -105,7 +105,7 @@ pub fn spatialjoin_print(frame: &[u8], text: &mut [u8]) -> i64
     print_number(frame, text)
 }
 
-// A merge with rows of N places for the numbers of both frames' nodes and of the merged frame's, which are no more.
+// A merge with rows of N places for both frames' nodes and the merged frame's, which are no more.
 fn merge_by<const N: usize>(
     frame: &[u8],
     plan: &mut [u8],
@@ -118,9 +118,9 @@ fn merge_by<const N: usize>(
         (merges.merge frame.now n plan.old scratch.old
         (nodes_of table.old)) plan.new scratch.new (nodes_of table.new) result }
 {
-    let mut row = [0; N];
+    let mut row = [NO_RECORD; N];
     let merged = merge_core::<N>(&mut row, frame, plan, n, scratch, table.len());
-    put_nodes(table, &row, merged.count);
+    put_nodes(table, &row[..merged.count]);
     merged.answer
 }
 

@@ -19,6 +19,7 @@ use Rattle.plan_writer.specs.Tables.{ChildTable}
 use Rattle.plan_writer.specs.Arguments.{table_change}
 use Rattle.plan_writer.specs.Predicates.{predicate_bytes}
 use Rattle.plan_writer.proofs.ChildLaws.{by-children}
+use Rattle.remainder.specs.Pruned.{Prunable}
 use Rattle.remainder.specs.Remainders as remainders
 use Rattle.call_extract.specs.Extractions.{Taking, takes, ExtractionFits, ExtractionPut}
 
@@ -44,7 +45,7 @@ module _ {s : List ℕ} {f : Frame} {p : Pick} {F : tree.Frame} {q : tree.Predic
       by-children F.records to (omega (arith, t.few, count))
       (rw count (table F.records t.entries)) s p.predicate q t.predicate
 
-  pub taken-frame : remainders.FrameAt s f.records f.columns f.root F.records F.expr
+  pub taken-frame : Prunable s f.records f.columns s f.root F.records F.expr
   taken-frame = record {
     entries = t.entries;
     few = t.few;
@@ -74,7 +75,7 @@ module _ {s : List ℕ} {f : Frame} {p : Pick} {out : List ℕ} (h : ExtractionF
     pub predicate-ends : w ≤ length middle
     predicate-ends = omega (arith, h.room, extraction-length taken, ended)
 
-    pub remainder-fits : remainders.RemainderFits s f.records f.columns f.root p.cut (behind w middle)
+    pub remainder-fits : remainders.RemainderFits s f.records f.columns s f.root p.cut (behind w middle)
     remainder-fits = record {
       records = h.frame.records;
       tree = h.frame.expr;
@@ -89,7 +90,7 @@ module _ {s : List ℕ} {f : Frame} {p : Pick} {out : List ℕ} (h : ExtractionF
 module _ {s : List ℕ} {f : Frame} {p : Pick} (to : List ℕ) (wide : 256 ≤ length to) (table : ChildTable s f.records f.columns to)
     (before middle part : List ℕ) (w r : ℕ)
     (put : Puts (PredicateAt (table_change to) s p.predicate) (predicate_bytes p.position) before middle w)
-    (rest : remainders.RemainderPut s f.records f.columns f.root p.cut (behind w middle) part r) where
+    (rest : remainders.RemainderPut s f.records f.columns s f.root p.cut (behind w middle) part r) where
   pub extraction-is : ExtractionPut s f p before (together w middle part) (w + r)
   extraction-is F q t =
       let X : tree.Extraction = takes F p q in

@@ -23,8 +23,10 @@ use Rattle.frame_reader.specs.declared.frame_bodies.Frame as places
 use Rattle.plan_reader.specs.Plans.{HoldsFrame}
 use Rattle.leaf_matching.specs.Frames.{Over}
 use Rattle.expression.specs.Nodes.{OfTree}
-use Rattle.node_rows.specs.Rows.{Tabled}
-use Rattle.call_extract.specs.FrameRows.{Indexed}
+use Rattle.node_table.specs.declared.NodeRecord.{NodeRecord as Lent}
+use Rattle.filter_tree.specs.Trees.{Noded}
+use Rattle.filter_tree.proofs.Children.{whole-noded}
+use Rattle.call_extract.specs.FrameNodes.{Indexed}
 use Rattle.leaf_pick.specs.Picks.{TakenIs}
 use Rattle.leaf_pick.specs.declared.first_match.Pick as picks
 use Rattle.call_extract.specs.Extractions.{Taking, takes, ExtractionFits, ExtractionPut}
@@ -75,11 +77,15 @@ module _ (match : Matcher) (n : ℕ) (before scratch : List ℕ) {f : places.Fra
   pub over : Over (take n before) f.records f.root F.records F.expr
   over = record { entries = between-holds h.stands.records; tree = expr-stands h.stands.expr }
 
-  -- The copy's nodes are in the rows too.
-  pub indexed-kept : {numbers next : List ℕ} → Indexed n before f numbers next → (after : List ℕ)
-      → after ≡ take n (drop 0 before) ++ drop n scratch → Indexed n after f numbers next
-  indexed-kept {numbers} {next} indexed after copied =
-      subst (λ (s : List ℕ). OfTree s f.root (Tabled numbers next f.root 0)) (sym (kept n before h.fits scratch after copied)) indexed
+  -- They are a tree's, in the copy too.
+  pub indexed-noded : {nodes : List Lent} → Indexed n before f nodes → OfTree (take n before) f.root (Noded nodes f.root 0)
+  indexed-noded indexed d t stands = whole-noded (indexed d t stands)
+
+  pub noded-kept : {nodes : List Lent} → Indexed n before f nodes → (after : List ℕ)
+      → after ≡ take n (drop 0 before) ++ drop n scratch → OfTree (take n after) f.root (Noded nodes f.root 0)
+  noded-kept {nodes} indexed after copied =
+      subst (λ (s : List ℕ). OfTree s f.root (Noded nodes f.root 0)) (sym (kept n before h.fits scratch after copied))
+      (indexed-noded indexed)
 
   module _ {Asks : Meaning → Type 0} (laws : Lawful match Asks) (bytes : AllBytes before) (p : picks.Pick)
       (t : TakenIs match (take n before) f.root p F.records F.expr) where

@@ -18,7 +18,7 @@ use Rattle.definitions.specs.Filter.Merge.{merge_frames, over_limits}
 use Rattle.definitions.specs.Calls.Merge.{merged_frame, new_after_merge, with_table, merge}
 use Rattle.theorems.proofs.NodeTables.{table-nests-by}
 use Rattle.expression.specs.Filling.{Records}
-use Rattle.node_table.proofs.FillLaws.{records-count}
+use Rattle.filter_tree.proofs.Rows.{records-count}
 
 -- The table is as long as it was.
 abbrev Kept : List NodeRecord → Result Frame → Type 0

@@ -1,6 +1,8 @@
--- Right because the core says what is left to put, the row begins with the numbers of these records, and `put_nodes` puts them.
+-- Right because the core says what is left to put, the row begins with these records, and `put_nodes` puts them.
 use borrow.Author.Rules.{rules}
+use native.Mathlib.Omega.{arith}
 use lib.ListN.{length-map}
+use lib.Seq.{length-take-le}
 use mir.Syntax.{w64}
 use mir.Val.{SFits}
 use mir.Facts.{to_z-of_z}
@@ -11,11 +13,15 @@ use Rattle.spatialjoin_c.proofs.load_by.Goals as goal
 pub put_nodes-requires : goal.put_nodes-requires
 put_nodes-requires g c =
     let core = c.load_core-loaded in
-    (load-asks _ _ _ core.result (nodes_of c.args.table.now) (length-map c.args.table.now node_of) core.ensures.0, core.ensures.1.0)
+    omega (
+      arith,
+      length-take-le core.result.count core.new.row core.ensures.1.0,
+      load-asks _ _ _ core.result (nodes_of c.args.table.now) (length-map c.args.table.now node_of) core.ensures.0,
+    )
 
 pub returns : goal.returns
 returns g c =
     let core = c.load_core-loaded in
     let fits : SFits w64 core.result.answer = search rules in
-    simp to_z-of_z (load-fills _ _ _ core.result (nodes_of c.args.table.now) (length-map c.args.table.now node_of) core.ensures.0 _
+    simp to_z-of_z (load-fills _ _ _ core.result c.args.table.now (length-map c.args.table.now node_of) core.ensures.0 _ _
     core.ensures.1 c.put_nodes.ensures)

@@ -5,7 +5,7 @@ use Rattle.terms.specs.Settings.{settings_of}
 use Rattle.theorems.proofs.SettingsLaws.{settings-laws}
 use Rattle.leaf_pick.specs.Picks.{TakenIs}
 use Rattle.node_reader.proofs.Standing.{all-bytes}
-use Rattle.call_extract.proofs.held_frame.Extracting.{scratch-short, no-leaf, over, indexed-kept, extraction-fits, extracts}
+use Rattle.call_extract.proofs.held_frame.Extracting.{scratch-short, no-leaf, over, indexed-noded, noded-kept, extraction-fits, extracts}
 use Rattle.call_extract.proofs.held_frame.extract_frame.Goals as goal
 use Rattle.call_extract.proofs.held_frame.extract_frame.Goals.{In-Some}
 
@@ -23,6 +23,11 @@ pub returns-then-scratch-n : goal.returns-then-scratch-n
 returns-then-scratch-n c =
     rw c.refused.ensures (scratch-short _ _ _ _ c.requires.holds_frame c.if-scratch-n.true)
 
+pub extract_in_one_walk-walked-requires-clause-of_tree : goal.extract_in_one_walk-walked-requires-clause-of_tree
+extract_in_one_walk-walked-requires-clause-of_tree c =
+    indexed-noded (match_under (settings_of c.args.settings.settings)) c.args.n c.args.plan.now c.args.scratch.now c.requires.holds_frame
+    c.requires.indexed
+
 pub put_extraction-length-requires-clause-extraction_fits : goal.put_extraction-length-requires-clause-extraction_fits
 put_extraction-length-requires-clause-extraction_fits c =
     let a = c.args in
@@ -33,7 +38,7 @@ put_extraction-length-requires-clause-extraction_fits c =
 
 pub put_extraction-length-requires-clause-of_tree : goal.put_extraction-length-requires-clause-of_tree
 put_extraction-length-requires-clause-of_tree c =
-    indexed-kept (match_under (settings_of c.args.settings.settings)) c.args.n c.args.plan.now c.args.scratch.now c.requires.holds_frame
+    noded-kept (match_under (settings_of c.args.settings.settings)) c.args.n c.args.plan.now c.args.scratch.now c.requires.holds_frame
     c.requires.indexed _ c.copy_bytes.ensures
 
 pub returns-in-None : goal.returns-in-None

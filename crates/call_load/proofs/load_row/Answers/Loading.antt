@@ -23,11 +23,12 @@ use Rattle.terms.specs.Refusals.{number_of}
 use Rattle.terms.specs.declared.refusals.Refusal.{Refusal}
 use Rattle.terms.specs.declared.refusals.Refusal.TheVariants.{BufferTooShort, TableTooShort}
 use Rattle.expression.specs.Filling.{Records, filled}
-use Rattle.node_rows.specs.Numbers.{numbers_from}
-use Rattle.node_rows.specs.Rows.{Tabled, RowHas}
-use Rattle.node_rows.proofs.FillLaws.{standing-has}
-use Rattle.node_rows.proofs.MoveLaws.{begins}
-use Rattle.frame_reader.specs.Frames.{FrameAt}
+use Rattle.filter_tree.proofs.NodeBytes.{nodes-by-bytes}
+use Rattle.node_table.specs.Records.{RowHas}
+use Rattle.node_table.specs.declared.NodeRecord.{NodeRecord as Lent}
+use Rattle.filter_tree.specs.Trees.{Recorded}
+use Rattle.filter_tree.proofs.Rows.{row-has}
+use Rattle.frame_reader.specs.Frames.{FrameAt, Roomy}
 use Rattle.frame_reader.specs.declared.frame_bodies.Frame as places
 use Rattle.frame_reader.proofs.Standing.{expr-stands}
 use Rattle.call_load.specs.Loads.{LoadedIs}
@@ -96,11 +97,18 @@ module _ (frame before : List ℕ) (held : ℕ) where
 -- ---- the row
 
 -- Of a frame's records it has those that reading put there.
-module _ {s row indexes : List ℕ} {f : places.Frame} {end : ℕ} {F : Frame} (stands : FrameAt s f end F)
-    (own : Tabled row indexes f.root 0 F.expr) where
-  its-numbers : take f.nodes row ≡ numbers_from f.root F.expr
-  its-numbers =
-      ap (λ (k : ℕ). take k row) stands.sized ∙ begins f.root F.expr own.numbered
-
-  pub frame_has : RowHas s f.root f.nodes row
-  frame_has = standing-has row (expr-stands stands.expr) stands.sized its-numbers
+pub frame_has : {s : List ℕ} (row after : List Lent) {f : places.Frame} {F : Frame} → Roomy s row → length after ≡ length row
+    → FrameAt s f (length s) F → AllBytes s → frame_of s ≡ ok F → Recorded after f.root 0 F.expr → RowHas s f.root f.nodes after
+unfolding plan_nodes
+frame_has {s} row after {f} {F} room same stands bytes good recorded =
+    let few = (frame_back s F bytes good).1.few_nodes in
+    row-has after (expr-stands stands.expr) stands.sized (omega (
+      arith,
+      room,
+      same,
+      few,
+      stands.sized,
+      nodes-by-bytes _ F.expr stands.expr.readable.in_range,
+      stands.expr.bytes.ends,
+      stands.expr.bytes.within,
+    )) recorded
