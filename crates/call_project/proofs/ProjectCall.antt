@@ -24,7 +24,7 @@ use Rattle.std.specs.Prelude.{Ok, Some}
 use Rattle.std.proofs.Common.{◌⊎◌, inl, inr}
 use Rattle.terms.specs.Refusals.{number_of}
 use Rattle.terms.specs.declared.refusals.Refusal.{Refusal}
-use Rattle.node_rows.specs.Rows.{NoRows}
+use Rattle.node_reader.specs.Places.{NoClaim}
 use Rattle.plan_reader.specs.Plans.{HeldIs, NotHeld, no_bytes, no_good}
 use Rattle.plan_reader.specs.declared.extraction_bodies.Extraction.{Extraction}
 use Rattle.plan_reader.specs.declared.extraction_bodies.Held.TheVariants as there
@@ -126,7 +126,7 @@ not-held n before scratch of_left of_right fits (no_good number e) = no-plan (pr
 
 -- An extraction that was read is held.
 pub holds_of : (n : ℕ) (before : List ℕ) (x : Extraction) → n ≤ length before → AllBytes before
-    → HeldIs (take n before) (Ok (there.Extraction x)) (plan_of (take n before)) NoRows → HoldsExtraction n before x
+    → HeldIs (take n before) (Ok (there.Extraction x)) (plan_of (take n before)) NoClaim → HoldsExtraction n before x
 holds_of n before x fits bytes good =
     let back = plan-back (take n before) (extracted good.0) (bytes-up-to n before bytes) good.2 in
     record { X = good.0; fits = fits; there = record { bytes = back.0; good = back.1; read = good.1; in_row = good.3 }; is = good.2 }

@@ -11,13 +11,13 @@ use Rattle.definitions.specs.Bytes.Decode.{index_below}
 use Rattle.expression.specs.Nodes.{Stands}
 use Rattle.projection.specs.Spots.{Spot, column_spots}
 use Rattle.projection.specs.Rows.{ColumnsFit, SpotsPut, ColumnsCollected}
-use Rattle.node_rows.specs.declared.collecting.Passed.{Passed}
+use Rattle.projection.specs.declared.spots.Spotted.{Spotted}
 use Rattle.projection.proofs.SpotWalk.{index-after, collected-both}
 use Rattle.projection.specs.PlanSpots.{both_spots}
 use Rattle.projection.specs.Arguments.{BothFit, BothCollected}
 
 -- The same walk counted from another place.
-pub counted-from : {at size i : ℕ} {x : List Spot} {before after : List ℕ} {r : Passed} → SpotsPut at size i x before after r
+pub counted-from : {at size i : ℕ} {x : List Spot} {before after : List ℕ} {r : Spotted} → SpotsPut at size i x before after r
     → (from length : ℕ) → at + size ≡ from + length → SpotsPut from length i x before after r
 counted-from c from length e = record { ends = c.ends ∙ e; put = c.put }
 
@@ -31,7 +31,7 @@ module _ {s : List ℕ} {at : ℕ} {one two : Side} {row : List ℕ} (f : BothFi
     room = omega (arith, simp length-append at f.room);
   }
 
-  pub second_fits : (middle : List ℕ) → length middle ≡ length row → (p : Passed) → ColumnsCollected s at one 0 row middle p
+  pub second_fits : (middle : List ℕ) → length middle ≡ length row → (p : Spotted) → ColumnsCollected s at one 0 row middle p
       → ColumnsFit s p.end two p.index middle
   unfolding both_spots
   second_fits middle same p is =
@@ -44,7 +44,7 @@ module _ {s : List ℕ} {at : ℕ} {one two : Side} {row : List ℕ} (f : BothFi
             (omega (arith, index-after a, simp length-append at f.room));
       }
 
-pub both-collected : {s : List ℕ} {at : ℕ} (one two : Side) (before middle after : List ℕ) (p r : Passed)
+pub both-collected : {s : List ℕ} {at : ℕ} (one two : Side) (before middle after : List ℕ) (p r : Spotted)
     → ColumnsCollected s at one 0 before middle p → ColumnsCollected s p.end two p.index middle after r
     → BothCollected s at one two before after r
 unfolding both_spots

@@ -24,12 +24,12 @@ use Rattle.byte_writer.proofs.Written.{chain, nothing-wrote, store}
 use Rattle.plan_writer.proofs.Fields.{column-is, column-size}
 use Rattle.projection.specs.Spots.{Spot, spot_number, column_spots, child_spots}
 use Rattle.projection.specs.Rows.{ColumnsFit, SpotsPut, ColumnsCollected}
-use Rattle.node_rows.specs.declared.collecting.Passed.{Passed}
+use Rattle.projection.specs.declared.spots.Spotted.{Spotted}
 use Rattle.projection.proofs.SpotLaws.{no-own-spots}
 
 -- ---- one walk after another
 
-pub collected-both : {at size more i : ℕ} {x y : List Spot} {before middle after : List ℕ} {p r : Passed} → i ≤ length before
+pub collected-both : {at size more i : ℕ} {x y : List Spot} {before middle after : List ℕ} {p r : Spotted} → i ≤ length before
     → SpotsPut at size i x before middle p → SpotsPut p.end more p.index y middle after r
     → SpotsPut at (size + more) i (x ++ y) before after r
 collected-both {i = i} {x} {y} {before} {middle} {after} {p} {r} room a b = record {
@@ -38,7 +38,7 @@ collected-both {i = i} {x} {y} {before} {middle} {after} {p} {r} room a b = reco
 }
 
 -- The index after a walk.
-pub index-after : {at size i : ℕ} {x : List Spot} {before after : List ℕ} {r : Passed} → SpotsPut at size i x before after r
+pub index-after : {at size i : ℕ} {x : List Spot} {before after : List ℕ} {r : Spotted} → SpotsPut at size i x before after r
     → r.index ≡ i + length x
 index-after {i = i} {x} c = c.put.ends ∙ ap (λ (n : ℕ). i + n) (length-map x spot_number)
 

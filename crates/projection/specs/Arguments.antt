@@ -9,7 +9,7 @@ use Rattle.sedona_query_planner.specs.Predicates.{unchanged, PredicateAt}
 use Rattle.sedona_query_planner.specs.declared.spatial_predicate.SpatialPredicate.{SpatialPredicate}
 use Rattle.plan_reader.specs.Predicates.{InRow}
 use Rattle.projection.specs.Rows.{SpotsPut}
-use Rattle.node_rows.specs.declared.collecting.Passed.{Passed}
+use Rattle.projection.specs.declared.spots.Spotted.{Spotted}
 use Rattle.projection.specs.PlanSpots.{both_spots, predicate_spots}
 
 -- Two expressions stand there, one after the other.
@@ -25,7 +25,7 @@ pub record BothFit (s : List ℕ) (at : ℕ) (one two : Side) (row : List ℕ) :
   pub short : at + (length (expr_bytes l) + length (expr_bytes r)) ≤ most_bytes
   pub room : length (both_spots one two at l r) ≤ length row
 
-abbrev pub BothCollected : (s : List ℕ) (at : ℕ) (one two : Side) (before after : List ℕ) → Passed → Type 0
+abbrev pub BothCollected : (s : List ℕ) (at : ℕ) (one two : Side) (before after : List ℕ) → Spotted → Type 0
 BothCollected s at one two before after p =
     (l r : Expr) → BothThere s at l r
     → SpotsPut at (length (expr_bytes l) + length (expr_bytes r)) 0 (both_spots one two at l r) before after p
@@ -43,6 +43,6 @@ pub record ArgumentsFit (s : List ℕ) (p : SpatialPredicate) (row : List ℕ) :
   pub short : 3 + length (predicate_fields P) ≤ most_bytes
   pub room : length (predicate_spots P) ≤ length row
 
-abbrev pub ArgumentsCollected : (s : List ℕ) → SpatialPredicate → (before after : List ℕ) → Passed → Type 0
+abbrev pub ArgumentsCollected : (s : List ℕ) → SpatialPredicate → (before after : List ℕ) → Spotted → Type 0
 ArgumentsCollected s p before after r =
     (P : Predicate) → PredicateThere s p P → SpotsPut 3 (length (predicate_fields P)) 0 (predicate_spots P) before after r

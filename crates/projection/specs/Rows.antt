@@ -8,7 +8,7 @@ use Rattle.expression.specs.Nodes.{Stands}
 use Rattle.byte_writer.specs.Written.{WroteAt}
 use Rattle.plan_writer.specs.Tables.{Entries}
 use Rattle.projection.specs.Spots.{Spot, spot_number, column_spots, record_spots}
-use Rattle.node_rows.specs.declared.collecting.Passed.{Passed}
+use Rattle.projection.specs.declared.spots.Spotted.{Spotted}
 
 -- ---- columns
 
@@ -20,12 +20,12 @@ pub record ColumnsFit (s : List ℕ) (at : ℕ) (side : Side) (i : ℕ) (row : L
   pub room : i + length (column_spots side at tree) ≤ length row
 
 -- A walk of `size` bytes put these into the row from index i on; where it ended, and the index after them.
-pub record SpotsPut (at size i : ℕ) (spots : List Spot) (before after : List ℕ) (r : Passed) : Type 0 where
+pub record SpotsPut (at size i : ℕ) (spots : List Spot) (before after : List ℕ) (r : Spotted) : Type 0 where
   pub ends : r.end ≡ at + size
   pub put : WroteAt i (map spot_number spots) before after r.index
 
 -- What was put of the expression at a place.
-abbrev pub ColumnsCollected : (s : List ℕ) (at : ℕ) (side : Side) (i : ℕ) (before after : List ℕ) → Passed → Type 0
+abbrev pub ColumnsCollected : (s : List ℕ) (at : ℕ) (side : Side) (i : ℕ) (before after : List ℕ) → Spotted → Type 0
 ColumnsCollected s at side i before after r =
     (t : Expr) → Stands (index_below two_bytes) s at t → SpotsPut at (length (expr_bytes t)) i (column_spots side at t) before after r
 

@@ -4,15 +4,14 @@ ghost use Rattle.terms.specs.Sides.{join_side};
 ghost use Rattle.projection.specs.Arguments.{BothFit, BothCollected, ArgumentsFit, ArgumentsCollected};
 ghost use Rattle.projection.specs.Extractions.{ExtractionFits, ExtractionCollected};
 
-use super::spots::{collect_columns, collect_records};
-use node_rows::collecting::Passed;
+use super::spots::{Spotted, collect_columns, collect_records};
 use plan_reader::extraction_bodies::Extraction;
 use plan_writer::records::Records;
 use sedona_query_planner::spatial_predicate::SpatialPredicate;
 use terms::sides::JoinSide;
 
 // Two arguments, the second where the first ended.
-fn collect_both(row: &mut [u32], src: &[u8], at: usize, one: JoinSide, two: JoinSide) -> Passed
+fn collect_both(row: &mut [u32], src: &[u8], at: usize, one: JoinSide, two: JoinSide) -> Spotted
     requires { BothFit src.now at (join_side one) (join_side two) row.old }
     ensures { BothCollected src.now at (join_side one) (join_side two) row.old row.new result }
 {
@@ -21,7 +20,7 @@ fn collect_both(row: &mut [u32], src: &[u8], at: usize, one: JoinSide, two: Join
 }
 
 // The arguments of the predicate, which stand in a row after its other fields.
-fn collect_arguments(row: &mut [u32], src: &[u8], p: SpatialPredicate) -> Passed
+fn collect_arguments(row: &mut [u32], src: &[u8], p: SpatialPredicate) -> Spotted
     requires { ArgumentsFit src.now p row.old }
     ensures { ArgumentsCollected src.now p row.old row.new result }
 {

@@ -6,9 +6,15 @@ ghost use Rattle.projection.specs.Rows.{ColumnsFit, ColumnsCollected, RecordsFit
 
 use expression::fields::short_at;
 use expression::heads::head_at;
-use node_rows::collecting::Passed;
 use plan_writer::records::Records;
 use terms::sides::JoinSide;
+
+// Where the expression ends, and the place of the row that comes after its own.
+#[derive(Clone, Copy)]
+pub struct Spotted {
+    pub end: usize,
+    pub index: usize,
+}
 
 // A child index, its place in the plan and the side that it is of as one number: memory is fixed, and a struct of the three takes more.
 fn spot_number(side: JoinSide, at: usize, child: usize) -> u32
@@ -20,7 +26,7 @@ fn spot_number(side: JoinSide, at: usize, child: usize) -> u32
 
 // Puts the columns of the expression at a place, an argument's of a side, into the row from index i on. Its nodes stand one after another:
 // a step passes one, and then its children are the first that are left.
-pub fn collect_columns(row: &mut [u32], src: &[u8], at: usize, side: JoinSide, i: usize) -> Passed
+pub fn collect_columns(row: &mut [u32], src: &[u8], at: usize, side: JoinSide, i: usize) -> Spotted
     requires { ColumnsFit src.now at (join_side side) i row.old }
     ensures { ColumnsCollected src.now at (join_side side) i row.old row.new result }
 {
@@ -39,7 +45,7 @@ pub fn collect_columns(row: &mut [u32], src: &[u8], at: usize, side: JoinSide, i
             left = left - 1 + head.children;
         }
     }
-    Passed { end, index }
+    Spotted { end, index }
 }
 
 // Puts the child indexes of the records into the row from index i on; answers the index after them.

@@ -18,7 +18,7 @@ use Rattle.definitions.specs.Bytes.Good.{AllBytes}
 use Rattle.std.specs.Prelude.{Ok}
 use Rattle.terms.specs.Refusals.{number_of}
 use Rattle.terms.specs.declared.refusals.Refusal.{Refusal}
-use Rattle.node_rows.specs.Rows.{NoRows}
+use Rattle.node_reader.specs.Places.{NoClaim}
 use Rattle.plan_reader.specs.Plans.{HeldIs, NotHeld, no_bytes, no_good}
 use Rattle.plan_reader.specs.declared.extraction_bodies.Held.{Held}
 use Rattle.plan_reader.specs.declared.extraction_bodies.Held.TheVariants as there
@@ -77,7 +77,7 @@ pub record HoldsPlan (n : ℕ) (plan : List ℕ) (h : Held) : Type 0 where
   pub is : plan_of (take n plan) ≡ ok it
 
 -- A frame or an extraction that was read is held.
-pub holds_of : (n : ℕ) (before : List ℕ) (h : Held) → n ≤ length before → HeldIs (take n before) (Ok h) (plan_of (take n before)) NoRows
+pub holds_of : (n : ℕ) (before : List ℕ) (h : Held) → n ≤ length before → HeldIs (take n before) (Ok h) (plan_of (take n before)) NoClaim
     → HoldsPlan n before h
 holds_of n before (there.Frame f) fits good =
     record { it = held good.0; fits = fits; stands = (good.0, refl, good.1); is = good.2 }

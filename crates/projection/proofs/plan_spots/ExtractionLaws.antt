@@ -22,7 +22,7 @@ use Rattle.byte_writer.proofs.Written.{chain}
 use Rattle.plan_writer.specs.Tables.{Entries}
 use Rattle.projection.specs.Spots.{Spot, spot_number, record_spots}
 use Rattle.projection.specs.Rows.{SpotsPut, RecordsFit, RecordsCollected}
-use Rattle.node_rows.specs.declared.collecting.Passed.{Passed}
+use Rattle.projection.specs.declared.spots.Spotted.{Spotted}
 use Rattle.projection.proofs.SpotWalk.{index-after}
 use Rattle.projection.proofs.SpotLaws.{record-spots}
 use Rattle.projection.specs.PlanSpots.{predicate_spots, remainder_spots, extraction_spots}
@@ -80,7 +80,7 @@ module _ {s : List ℕ} {x : Extraction} {row : List ℕ} (f : ExtractionFits s 
   }
 
   pub records-fit : (g : Frame) → RemainderAt s (Some g) (length s) f.X.remainder → (middle : List ℕ)
-      → length middle ≡ length row → (p : Passed) → ArgumentsCollected s x.predicate row middle p
+      → length middle ≡ length row → (p : Spotted) → ArgumentsCollected s x.predicate row middle p
       → (p.end + 3 + 5 * g.columns ≤ length s) × RecordsFit (p.end + 3) g.columns p.index middle
   unfolding extraction_spots remainder_spots
   records-fit g read middle same p is =
@@ -103,7 +103,7 @@ module _ {s : List ℕ} {x : Extraction} {row : List ℕ} (f : ExtractionFits s 
 
 -- ---- what is collected
 
-module _ {s : List ℕ} {x : Extraction} (before middle : List ℕ) (p : Passed) (is : ArgumentsCollected s x.predicate before middle p)
+module _ {s : List ℕ} {x : Extraction} (before middle : List ℕ) (p : Spotted) (is : ArgumentsCollected s x.predicate before middle p)
     (X : tree.Extraction) (t : ExtractionThere s x X) where
   first : SpotsPut 3 (length (predicate_fields X.predicate)) 0 (predicate_spots X.predicate) before middle p
   first = is X.predicate (predicate-there t)

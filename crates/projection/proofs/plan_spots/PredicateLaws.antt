@@ -20,7 +20,7 @@ use Rattle.sedona_query_planner.specs.declared.spatial_predicate.SpatialPredicat
 use Rattle.sedona_query_planner.specs.declared.spatial_predicate.SpatialPredicate.TheVariants.{Distance, Relation, KNearestNeighbors}
 use Rattle.projection.specs.Spots.{Spot, column_spots}
 use Rattle.projection.specs.Rows.{ColumnsFit, SpotsPut, ColumnsCollected}
-use Rattle.node_rows.specs.declared.collecting.Passed.{Passed}
+use Rattle.projection.specs.declared.spots.Spotted.{Spotted}
 use Rattle.projection.proofs.SpotWalk.{index-after, collected-both}
 use Rattle.projection.specs.PlanSpots.{both_spots, predicate_spots}
 use Rattle.projection.specs.Arguments.{BothThere, BothFit, BothCollected, PredicateThere, ArgumentsFit}
@@ -86,7 +86,7 @@ module _ {s : List ℕ} {one two : Side} {at : ℕ} where
     room = subst (λ (x : List Spot). length x ≤ length row) t.spots f.room;
   }
 
-  pub two-collected : (before after : List ℕ) (r : Passed) → BothCollected s at one two before after r → {P : Predicate}
+  pub two-collected : (before after : List ℕ) (r : Spotted) → BothCollected s at one two before after r → {P : Predicate}
       → OfTwo s P one two at → SpotsPut 3 (length (predicate_fields P)) 0 (predicate_spots P) before after r
   two-collected before after r is {P} t =
       subst (λ (x : List Spot). SpotsPut 3 (length (predicate_fields P)) 0 x before after r) (sym t.spots)
@@ -139,7 +139,7 @@ module _ {s : List ℕ} {side : Side} {at : ℕ} where
   }
 
   pub bound-fits : {p : SpatialPredicate} {row : List ℕ} (f : ArgumentsFit s p row) → OfThree s f.P side at → (middle : List ℕ)
-      → length middle ≡ length row → (b : Passed) → BothCollected s at left right row middle b → ColumnsFit s b.end side b.index middle
+      → length middle ≡ length row → (b : Spotted) → BothCollected s at left right row middle b → ColumnsFit s b.end side b.index middle
   bound-fits {row = row} f t middle same b is =
       let a = is t.l t.r t.there in
       record {
@@ -150,7 +150,7 @@ module _ {s : List ℕ} {side : Side} {at : ℕ} where
             (omega (arith, index-after a, simp length-append at (ap length t.spots), f.room));
       }
 
-  pub three-collected : (before middle after : List ℕ) (b r : Passed) → BothCollected s at left right before middle b
+  pub three-collected : (before middle after : List ℕ) (b r : Spotted) → BothCollected s at left right before middle b
       → ColumnsCollected s b.end side b.index middle after r → {P : Predicate} → OfThree s P side at
       → SpotsPut 3 (length (predicate_fields P)) 0 (predicate_spots P) before after r
   three-collected before middle after b r both last {P} t =
