@@ -107,17 +107,3 @@ module _ {A B : Type 0} {At : A → Type 0} {bytes : A → List ℕ} {h : List �
   pub stored-put : {r : ℕ} {before after : List ℕ} → Room At bytes 0 before → PutsAt Rest rest (0 + length h) (sets before 0 h) after r
       → Puts At bytes before after r
   stored-put {r} {before} p second = headed-put (stores h before 0 (omega (arith, head-room p))) second
-
--- ---- bytes that are known, and nothing after them
-
-module _ {A : Type 0} {At : A → Type 0} {bytes : A → List ℕ} {h : List ℕ} (is : (a : A) → At a → bytes a ≡ h) where
-  pub known-room : {out : List ℕ} → Room At bytes 0 out → length h ≤ length out
-  known-room p = omega (arith, p.room, ap length (is p.it p.stands))
-
-  pub known-put : {before : List ℕ} → Room At bytes 0 before → Puts At bytes before (sets before 0 h) (length h)
-  known-put {before} p =
-      record {
-        size = λ a s. ap length (sym (is a s));
-        wrote = λ a s. rw (is a s)
-            (to_start (stores h before 0 (omega (arith, known-room p)))).1;
-      }

@@ -8,6 +8,7 @@ use mathlib.Core.List.{List, [], ◌∷◌, ◌++◌, append_assoc, append-nil}
 use lib.ListN.{length, take, drop, get_or, set, length-append, length-set, length-drop, length-take, drop_of_length-le, take-append-drop}
 use lib.Seq.{drop-cons, take-suc, append_snoc, set_at, set_split, length-take-le, take_all, take_at, drop_at, drop-drop, take-append_seam}
 use Rattle.expression.specs.Places.{Holds}
+use Rattle.expression.proofs.Puts.{Put, put-chain}
 use Rattle.byte_writer.specs.Written.{Wrote, WroteAt}
 
 -- ---- a list written element by element
@@ -50,22 +51,10 @@ store before w b room =
 pub chain : {a b r : ℕ} {x y before middle after : List ℕ} → a ≤ length before → WroteAt a x before middle b → WroteAt b y middle after r
     → WroteAt a (x ++ y) before after r
 chain {a} {b} {r} {x} {y} {before} {middle} {after} room one two =
-    let rest : List ℕ = drop (a + length x) before in
-    let written : middle ≡ (take a before ++ x) ++ rest = one.out ∙ sym (append_assoc (take a before) x rest) in
-    let size : length (take a before ++ x) ≡ b = simp length-append (omega (arith, length-take-le a before room, one.ends)) in
-    let front : take b middle ≡ take a before ++ x = ap (take b) written ∙ take_at (take a before ++ x) rest b size in
-    let behind : drop b middle ≡ rest = ap (drop b) written ∙ drop_at (take a before ++ x) rest b size in
-    let both : a + length x + length y ≡ a + length (x ++ y) = simp length-append (omega arith) in
-    let kept : drop (b + length y) middle ≡ drop (a + length (x ++ y)) before =
-    sym (drop-drop (length y) b middle) ∙ ap (drop (length y)) behind ∙ drop-drop (length y) (a + length x) before
-    ∙ ap (λ (k : ℕ). drop k before) both in
-    record {
-      ends = simp length-append (omega (arith, one.ends, two.ends));
-      out =
-          two.out ∙ ap₂ ◌++◌ front (ap (λ (l : List ℕ). y ++ l) kept)
-          ∙ append_assoc (take a before) x (y ++ drop (a + length (x ++ y)) before)
-          ∙ ap (λ (l : List ℕ). take a before ++ l) (sym (append_assoc x y (drop (a + length (x ++ y)) before)));
-    }
+    let first : Put a x before middle b = record { ends = one.ends; out = one.out } in
+    let second : Put b y middle after r = record { ends = two.ends; out = two.out } in
+    let both = put-chain room first second in
+    record { ends = both.ends; out = both.out }
 
 pub two-stores : (before : List ℕ) (w a b : ℕ) → w + 2 ≤ length before
     → WroteAt w (a ∷ b ∷ []) before (set (set before w a) (w + 1) b) (w + 1 + 1)

@@ -19,7 +19,7 @@ use Rattle.node_table.specs.Records.{node_of, nodes_of, RowHas}
 use Rattle.node_table.specs.declared.NodeRecord.{NodeRecord as Lent}
 use Rattle.filter_tree.specs.Trees.{Noded, Node, OfNode, Recorded}
 use Rattle.filter_tree.proofs.Children.{whole-noded, recorded-within, recorded-whole}
-use Rattle.filter_tree.proofs.Fills.{Put, put-chain}
+use Rattle.expression.proofs.Puts.{Put, put-chain}
 use Rattle.filter_tree.proofs.Rows.{row-has}
 use Rattle.frame_reader.specs.declared.frame_bodies.Frame.{Frame}
 use Rattle.plan_reader.specs.Plans.{HeldIs}

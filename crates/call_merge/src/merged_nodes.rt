@@ -4,6 +4,7 @@ ghost use Rattle.definitions.specs.Words.Limits.{two_bytes};
 ghost use Rattle.call_merge.specs.MergedNodes.{Joinable, Movable, joined_nodes, moved};
 
 use call_answers::answers::Loaded;
+use expression::kinds;
 use frame_reader::frame_bodies::Frame;
 use node_table::NodeRecord;
 
@@ -45,7 +46,7 @@ pub fn put_joined(row: &mut [NodeRecord], rows: TwoRows, n: usize, new: Frame, m
 {
     let held = rows.old.len();
     row[0] = NodeRecord {
-        kind: 2,
+        kind: kinds::BINARY,
         start: merged.root as u16,
         end: merged.length as u16,
     };

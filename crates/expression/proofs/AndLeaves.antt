@@ -2,7 +2,7 @@
 use Prim.Native.Nat.{ℕ, ◌≤◌, ◌<◌}
 use native.Mathlib.Omega.{arith}
 use mathlib.Core.Path.{◌≡◌, refl, sym, ap, ◌∙◌, subst⁻¹}
-use mathlib.Core.Bool.{Bool, ◌&&◌, and-true, and_assoc}
+use mathlib.Core.Bool.{Bool, ◌&&◌, and_assoc}
 use mathlib.Core.List.{List, [], ◌∷◌, ◌++◌}
 use lib.ListN.{length, length-append}
 use Rattle.definitions.specs.Words.Basics.{all}
@@ -13,10 +13,9 @@ use Rattle.definitions.specs.Bytes.Decode.{Columns}
 use Rattle.theorems.proofs.Pick.{leaves-most}
 use Rattle.expression.proofs.Standing.{some_bytes}
 use Rattle.expression.specs.Nodes.{Stands, OfTreeIn}
-use Rattle.expression.specs.Leaves.{Both, CallIs, NodeIs, PlainNode, plain_column, plain_literal, plain_other, plain_field}
+use Rattle.expression.specs.Leaves.{NodeIs, PlainNode, plain_column, plain_literal, plain_other, plain_field}
 use Rattle.expression.specs.Cuts.{CutAt, here, in_left, in_right}
 use Rattle.expression.specs.declared.cuts.Cut.{Cut}
-use Rattle.expression.specs.declared.leaves.Called.{Called}
 use Rattle.expression.specs.declared.leaves.Node.{Node}
 use Rattle.expression.specs.declared.leaves.Node.TheVariants.{And, Binary, Call, Plain}
 
@@ -46,19 +45,6 @@ position-below (in_right c) = simp length-append (omega (arith, position-below c
 
 -- ---- by what stands there
 
-module _ {c : Columns} {s : List ℕ} {at : ℕ} {t : Expr} where
-  pub and-leaves : {first : ℕ} (b : Both and c s at first t) → leaves t ≡ leaves b.l ++ leaves b.r
-  unfolding leaves
-  and-leaves b = ap leaves b.is
-
-  pub binary-leaf : {operator first : ℕ} (b : Both (binary operator) c s at first t) → leaves t ≡ binary operator b.l b.r ∷ []
-  unfolding leaves
-  binary-leaf b = ap leaves b.is
-
-  pub call-leaf : {k : Called} (b : CallIs c s at k t) → leaves t ≡ call b.name b.arguments ∷ []
-  unfolding leaves
-  call-leaf b = ap leaves b.is
-
 pub plain-leaf : {t : Expr} → PlainNode t → leaves t ≡ t ∷ []
 unfolding leaves
 plain-leaf plain_column = refl
@@ -78,10 +64,6 @@ pub all_append : {A : Type 0} (f : A → Bool) (xs ys : List A) → all f (xs ++
 unfolding all
 all_append f [] ys = refl
 all_append f (x ∷ xs) ys = ap (λ (t : Bool). f x && t) (all_append f xs ys) ∙ sym (and_assoc (f x) (all f xs) (all f ys))
-
-pub all_one : {A : Type 0} (f : A → Bool) (x : A) → all f (x ∷ []) ≡ f x
-unfolding all
-all_one f x = and-true (f x)
 
 -- Any node but And is an AND-leaf.
 leaf-node : (c : Columns) (s : List ℕ) (at : ℕ) (t : Expr) (node : Node) → ((first : ℕ) → node ≡ And first → ⊥)

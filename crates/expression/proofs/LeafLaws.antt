@@ -11,10 +11,11 @@ use lib.Seq.{take_at}
 use Rattle.definitions.specs.Words.Expression.{Expr, column, literal, and, binary, call, other, field, Exprs, count}
 use Rattle.definitions.specs.Bytes.Decode.{Columns}
 use Rattle.expression.specs.Places.{Holds, part}
-use Rattle.expression.specs.Nodes.{head_bytes, children_of, kind_of, Stands}
+use Rattle.expression.specs.Nodes.{head_bytes, children_of, kind_of, Stands, Tree, OfTreeIn}
 use Rattle.expression.specs.Heads.{HeadIs}
-use Rattle.expression.specs.Leaves.{NodeIs, Both, CallIs, PlainNode, plain_column, plain_literal, plain_other, plain_field}
+use Rattle.expression.specs.Leaves.{NodeIs, Both, CallIs, Calls, PlainNode, plain_column, plain_literal, plain_other, plain_field}
 use Rattle.expression.specs.declared.heads.Head.{Head}
+use Rattle.expression.specs.declared.leaves.Called.{Called}
 use Rattle.expression.specs.declared.leaves.Node.{Node}
 use Rattle.expression.specs.declared.leaves.Node.TheVariants.{And, Binary, Call, Plain}
 use Rattle.expression.specs.contracts.leaves.Node.{the_type}
@@ -117,3 +118,8 @@ no-call h (Plain head) o (plain_column, k) e = omega arith
 no-call h (Plain head) o (plain_literal, k) e = omega arith
 no-call h (Plain head) o (plain_other, k) e = omega arith
 no-call h (Plain head) o (plain_field, k) e = omega arith
+
+-- A function stands where one was found.
+pub call-there : {s : List ℕ} {at : ℕ} (tree : Tree s at) {r : Node} → OfTreeIn s at (λ c t. NodeIs c s at r t) → {k : Called} → r ≡ Call k
+    → Calls s k
+call-there tree is e = let b = rw e at (is tree.0 tree.1 tree.2) in (tree.0, b.name, b.arguments, b.stands)

@@ -1,6 +1,7 @@
 -- Laws that the proofs use: expressions that stand in bytes, names and literals.
 pub mod Signed
 pub mod Placed
+pub mod Puts
 pub mod OfKind
 pub mod Records
 pub mod Standing
@@ -9,7 +10,4 @@ pub mod InOrder
 pub mod HeadLaws
 pub mod LeafLaws
 pub mod AndLeaves
-pub mod EndWalk
-pub mod Parts
-pub mod There
 pub mod NameLaws

@@ -1,5 +1,5 @@
 -- Laws of expressions at a place: a node's head, and its children after it.
-use Prim.Native.Nat.{ℕ, suc, ◌+◌, ◌≤◌, ◌<◌}
+use Prim.Native.Nat.{ℕ, suc, ◌+◌, ◌-◌, ◌≤◌, ◌<◌}
 use native.Mathlib.Omega.{arith}
 use mathlib.Core.Path.{◌≡◌, refl, sym, ap, ◌∙◌, subst}
 use mathlib.Core.List.{List, [], ◌∷◌, ◌++◌, append_assoc, append-nil}
@@ -12,7 +12,7 @@ use Rattle.definitions.specs.Bytes.Decode.{Columns}
 use Rattle.definitions.specs.Bytes.Good.{InRange, InRangeAll}
 use Rattle.theorems.proofs.Cases.{each}
 use Rattle.expression.specs.Places.{Holds, Between}
-use Rattle.expression.specs.Nodes.{head_bytes, children_of, kind_of, Stands, Spans, Row}
+use Rattle.expression.specs.Nodes.{head_bytes, children_of, kind_of, Stands, Spans, Row, Tree, OfTree, Trees}
 use Rattle.expression.proofs.Placed.{fits, byte_at, front, back}
 
 -- ---- a node is its head and its children
@@ -114,6 +114,40 @@ pub some-children : (P : Exprs → Type 0) → ((t : Expr) (ts : Exprs) → P (c
 unfolding count
 some-children P f nil e = absurd (omega arith)
 some-children P f (cons t ts) e = f t ts
+
+-- At least two, and at least three.
+pub two-of : (P : Exprs → Type 0) → ((a b : Expr) (more : Exprs) → P (cons a (cons b more))) → (ts : Exprs) → 2 ≤ count ts → P ts
+unfolding count
+two-of P f nil h = absurd (omega arith)
+two-of P f (cons a nil) h = absurd (omega arith)
+two-of P f (cons a (cons b more)) h = f a b more
+
+pub three-of : (P : Exprs → Type 0) → ((a b d : Expr) (more : Exprs) → P (cons a (cons b (cons d more)))) → (ts : Exprs) → 3 ≤ count ts
+    → P ts
+unfolding count
+three-of P f ts h = two-of (λ ts. 3 ≤ count ts → P ts)
+    (λ a b more k. some-children (λ more. P (cons a (cons b more))) (λ d more. f a b d more) more (omega arith))
+    ts (omega arith) h
+
+-- The first of a row that is not empty, and the others.
+module _ {s : List ℕ} {at : ℕ} where
+  pub first-there : {n : ℕ} → Trees s at n → (n ≡ 0 → ⊥) → Tree s at
+  first-there {n} p some = some-children (λ ts. Row p.0 s at n ts → Tree s at)
+      (λ t ts w. (p.0, t, first-stands w)) p.1 (omega (arith, p.2.counted)) p.2
+
+  pub rest-there : {n : ℕ} → Trees s at n → (n ≡ 0 → ⊥) → (q : ℕ) → OfTree s at (λ t. q ≡ at + length (expr_bytes t)) → Trees s q (n - 1)
+  rest-there {n} p some q is = some-children (λ ts. Row p.0 s at n ts → Trees s q (n - 1))
+      (λ t ts w. (p.0, ts, rest-stands w q (n - 1) (is p.0 t (first-stands w)) (omega arith))) p.1 (omega (arith, p.2.counted))
+      p.2
+
+  -- One expression is a row of one.
+  pub one-row : {c : Columns} {t : Expr} → Stands c s at t → Row c s at 1 (cons t nil)
+  unfolding exprs_bytes count
+  one-row {c} {t} h = record {
+    bytes = subst (Holds s at) (sym (append-nil (expr_bytes t))) h.bytes;
+    in_range = (h.in_range, tt);
+    counted = refl;
+  }
 
 -- ---- an expression up to its end
 

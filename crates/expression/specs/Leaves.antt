@@ -18,13 +18,6 @@ pub record Both (build : Expr → Expr → Expr) (c : Columns) (s : List ℕ) (a
   pub begins : first ≡ at + length (head_bytes t)
   pub row : Row c s first 2 (cons l (cons r nil))
 
--- Two expressions stand in a row; what is claimed of them.
-abbrev pub Pair : List ℕ → (first : ℕ) → Type 0
-Pair s first = (c : Columns) × (l : Expr) × (r : Expr) × Row c s first 2 (cons l (cons r nil))
-
-abbrev pub OfPair : List ℕ → (first : ℕ) → (Columns → Expr → Expr → Type 0) → Type 0
-OfPair s first P = (c : Columns) (l r : Expr) → Row c s first 2 (cons l (cons r nil)) → P c l r
-
 -- A name and arguments stand where a function's do.
 pub record CallStands (c : Columns) (s : List ℕ) (k : Called) (name : List ℕ) (arguments : Exprs) : Type 0 where
   pub low : k.name ≤ k.end

@@ -2,6 +2,8 @@
 ghost use Rattle.expression.specs.Nodes.{Tree, OfTree};
 ghost use Rattle.expression.specs.Heads.{HeadIs};
 
+use super::kinds;
+
 // Where a node's children begin, and how many there are.
 #[derive(Clone, Copy)]
 pub struct Head {
@@ -15,19 +17,19 @@ pub fn head_at(s: &[u8], at: usize) -> Head
     ensures { OfTree s.now at (HeadIs at result) }
 {
     match s[at] {
-        0 => Head {
+        kinds::COLUMN => Head {
             next: at + 5,
             children: 0,
         },
-        1 => Head {
+        kinds::LITERAL => Head {
             next: at + 10,
             children: 0,
         },
-        2 => Head {
+        kinds::BINARY => Head {
             next: at + 2,
             children: 2,
         },
-        3 => {
+        kinds::CALL => {
             let name = s[at + 1] as usize;
             let count = at + name + 2;
             Head {
@@ -35,7 +37,7 @@ pub fn head_at(s: &[u8], at: usize) -> Head
                 children: s[count] as usize,
             }
         }
-        4 => Head {
+        kinds::OTHER => Head {
             next: at + 4,
             children: s[at + 3] as usize,
         },

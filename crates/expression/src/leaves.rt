@@ -5,6 +5,7 @@ ghost use Rattle.expression.specs.Nodes.{Tree, OfTreeIn};
 ghost use Rattle.expression.specs.Leaves.{Calls, NodeIs};
 
 use super::heads::{Head, head_at};
+use super::kinds;
 
 // A function: its name stands from `name` up to `end`, its arguments in a row from `first` on.
 #[derive(Clone, Copy)]
@@ -45,11 +46,11 @@ pub fn node_at(s: &[u8], at: usize) -> Node
     let first = head.next;
     let count = head.children;
     match s[at] {
-        2 => match s[at + 1] {
+        kinds::BINARY => match s[at + 1] {
             0 => Node::And(first),
             operator => Node::Binary(operator, first),
         },
-        3 => Node::Call(Called {
+        kinds::CALL => Node::Call(Called {
             name: at + 2,
             end: first - 1,
             first,

@@ -158,9 +158,6 @@ starts-by {xs} {at} {i} {t} h m low high =
 pub whole-noded : {xs : List Lent} {at : ℕ} {t : Expr} → nodes_of xs ≡ nodes_from at t → Noded xs at 0 t
 whole-noded {xs} {at} {t} e = record { rest = []; is = e ∙ sym (append-nil (nodes_from at t)); later = tt }
 
-pub first-noded : (xs : List Lent) (count : ℕ) {at : ℕ} {t : Expr} → take count (nodes_of xs) ≡ nodes_from at t → Noded (take count xs) at 0 t
-first-noded xs count e = whole-noded (map-take node_of count xs ∙ e)
-
 -- A row that has the records of an expression, cut to them, is these.
 pub recorded-whole : (row : List Lent) (at : ℕ) (t : Expr) {m : ℕ} → Recorded row at 0 t → m ≡ nodes t
     → nodes_of (take m row) ≡ nodes_from at t

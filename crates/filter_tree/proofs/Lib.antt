@@ -6,7 +6,7 @@ pub mod Parents
 pub mod Spining
 pub mod Onwards
 pub mod LeavesLeft
-pub mod Fills
+pub mod Changing
 pub mod Indexes
 pub mod Rows
 pub mod NodeLaws

@@ -208,10 +208,6 @@ module _ {xs : List Lent} {at i : ℕ} {t : Expr} (h : Noded xs at i t) where
   unfolding record_of
   noded-end = ap (λ (r : NodeRecord). r.end) noded-record
 
-  pub noded-kind : (get_or xs i blank).kind ≡ kind_byte t
-  unfolding record_of
-  noded-kind = ap (λ (r : NodeRecord). r.kind) noded-record
-
   -- ---- its children
 
   pub noded-children : (p k : ℕ) → p ≡ at + length (head_bytes t) → k ≡ i + 1 → NodedAll xs p k (children_of t)

@@ -6,6 +6,7 @@ ghost use Rattle.filter_tree.specs.Spines.{and_record, low_after, spine_left, Of
 ghost use Rattle.filter_tree.specs.Trees.{Node};
 
 use super::tree::Tree;
+use expression::kinds;
 use node_table::NodeRecord;
 
 // Those that are still to come, from one index on: records that start before `low` are below a leaf that was passed.
@@ -22,7 +23,7 @@ pub struct Spine<'a> {
 pub fn is_and(s: &[u8], node: NodeRecord) -> bool
     ensures { result ≡ and_record s.now (node_of node) }
 {
-    if node.kind != 2 {
+    if node.kind != kinds::BINARY {
         return false;
     }
     let operator = usize::from(node.start) + 1;

@@ -7,6 +7,7 @@ ghost use Rattle.definitions.specs.Bytes.Good.{nodes};
 ghost use Rattle.filter_tree.specs.Columns.{columns_left, OfColumns, OfFields};
 ghost use Rattle.filter_tree.specs.Trees.{Node, OfNode, IsLeaf, AboveIs};
 
+use expression::kinds;
 use node_table::NodeRecord;
 
 // The bytes, and the records of their nodes.
@@ -16,7 +17,7 @@ pub struct Tree<'a> {
     pub nodes: &'a [NodeRecord],
 }
 
-// The columns below a node that are still to come, from one index on: nodes of kind 0, or of kind 5 where the filter is a logical one.
+// The columns below a node that are still to come, from one index on; its fields where the filter is a logical one.
 #[derive(Drop)]
 pub struct Columns<'a> {
     pub nodes: &'a [NodeRecord],
@@ -84,7 +85,7 @@ impl<'a> Tree<'a> {
             nodes: self.nodes,
             next: i,
             end: self.nodes[i].end,
-            kind: 0,
+            kind: kinds::COLUMN,
         }
     }
 
@@ -97,7 +98,7 @@ impl<'a> Tree<'a> {
             nodes: self.nodes,
             next: i,
             end: self.nodes[i].end,
-            kind: 5,
+            kind: kinds::FIELD,
         }
     }
 

@@ -12,7 +12,7 @@ use Rattle.definitions.specs.Bytes.Decode.{index_below}
 use Rattle.definitions.specs.Filter.Verdicts.{Verdict, as_relation, too_few_arguments, too_many_arguments, with_bound, argument_is, has_argument, sides_of}
 use Rattle.expression.specs.Nodes.{Row, Trees}
 use Rattle.expression.proofs.Standing.{some-children}
-use Rattle.expression.proofs.Parts.{two-of}
+use Rattle.expression.proofs.Standing.{two-of}
 use Rattle.definitions.specs.Bytes.Good.{nodes}
 use Rattle.node_table.specs.declared.NodeRecord.{NodeRecord as Lent}
 use Rattle.filter_tree.specs.Trees.{OfNode}

@@ -15,7 +15,7 @@ use Rattle.expression.specs.Leaves.{Both, CallIs, NodeIs}
 use Rattle.expression.specs.declared.leaves.Called.{Called}
 use Rattle.expression.specs.declared.leaves.Node as leaves
 use Rattle.expression.proofs.Standing.{some-children}
-use Rattle.expression.proofs.Parts.{two-of}
+use Rattle.expression.proofs.Standing.{two-of}
 use Rattle.node_table.specs.declared.NodeRecord.{NodeRecord as Lent}
 use Rattle.filter_tree.specs.Trees.{Node, OfNode}
 use Rattle.filter_tree.proofs.Scans.{noded-children, noded-within}

@@ -6,6 +6,7 @@ ghost use Rattle.leaf_verdicts.specs.Options.{natural_reason, KTold};
 ghost use Rattle.leaf_verdicts.specs.Stages.{ties_stage, flags_stage, options_stage};
 
 use super::verdict::Verdict;
+use expression::kinds;
 use leaf_matching::literal_arguments::{extract_literal_bool, long_at};
 
 // What is wrong with a k that has no sign.
@@ -29,7 +30,7 @@ fn k_reason(s: &[u8], at: usize, greatest: u32) -> Option<Verdict>
     requires { Tree s.now at }
     ensures { OfTree s.now at (KTold greatest result) }
 {
-    if s[at] != 1 {
+    if s[at] != kinds::LITERAL {
         return Some(Verdict::KNoNumber);
     }
     let bytes = long_at(s, at + 2);

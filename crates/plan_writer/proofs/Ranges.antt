@@ -8,7 +8,7 @@ use Rattle.definitions.specs.Words.Expression.{Expr, column, literal, and, binar
 use Rattle.definitions.specs.Bytes.Decode.{index_below}
 use Rattle.definitions.specs.Words.References.{map_columns, map_columns_all}
 use Rattle.definitions.specs.Bytes.Good.{InRange, InRangeAll}
-use Rattle.expression.specs.Nodes.{Stands, Row}
+use Rattle.expression.specs.Nodes.{Stands}
 
 module _ (a b : ℕ) (wide : a ≤ b) where
   mutual
@@ -27,9 +27,6 @@ module _ (a b : ℕ) (wide : a ≤ b) where
 
 pub wider-stands : {a b : ℕ} → a ≤ b → {s : List ℕ} {at : ℕ} {t : Expr} → Stands (index_below a) s at t → Stands (index_below b) s at t
 wider-stands {a} {b} wide {s} {at} {t} h = record { bytes = h.bytes; in_range = wider a b wide t h.in_range }
-
-pub wider-row : {a b : ℕ} → a ≤ b → {s : List ℕ} {at n : ℕ} {ts : Exprs} → Row (index_below a) s at n ts → Row (index_below b) s at n ts
-wider-row {a} {b} wide {s} {at} {n} {ts} h = record { bytes = h.bytes; in_range = wider-all a b wide ts h.in_range; counted = h.counted }
 
 -- Two ways to renumber that agree below the bound do the same.
 module _ (n : ℕ) (f g : ℕ → ℕ) (same : (i : ℕ) → i < n → f i ≡ g i) where

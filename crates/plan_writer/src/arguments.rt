@@ -9,6 +9,7 @@ use byte_writer::copies::copy_at;
 use byte_writer::numbers::put_number;
 use expression::fields::short_at;
 use expression::heads::head_at;
+use expression::kinds;
 use terms::sides::JoinSide;
 
 // Puts the new index of each column at its place in a copy that starts at w. The nodes of an expression stand one after another, so that a
@@ -19,7 +20,7 @@ fn patch_columns(out: &mut [u8], w: usize, src: &[u8], start: usize, end: usize,
 {
     let mut next = start;
     while next < end {
-        if src[next] == 0 {
+        if src[next] == kinds::COLUMN {
             let index = to[short_at(src, next + 1)];
             put_number(out, w + (next - start) + 1, 2, usize::from(index));
             next += 5;

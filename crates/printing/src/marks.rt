@@ -6,6 +6,7 @@ use super::decimals::put_marked;
 use super::fields::leading_number;
 use super::openings::{put_column, put_literal, put_name};
 use expression::fields::short_at;
+use expression::kinds;
 
 // Writes what stands before the children of the node at a place; all of it where it can have none. Inlined, since one of its callers has
 // only leaves, and then little is left of it.
@@ -16,13 +17,13 @@ pub fn put_opening(out: &mut [u8], w: usize, src: &[u8], at: usize) -> usize
 {
     let number = leading_number(src, at);
     match src[at] {
-        0 => put_column(out, w, number, short_at(src, at + 3)),
-        1 => put_literal(out, w, number, &src[at + 2..at + 10]),
-        2 => {
+        kinds::COLUMN => put_column(out, w, number, short_at(src, at + 3)),
+        kinds::LITERAL => put_literal(out, w, number, &src[at + 2..at + 10]),
+        kinds::BINARY => {
             out[w] = b'(';
             w + 1
         }
-        3 => put_name(out, w, &src[at + 2..at + 2 + number]),
+        kinds::CALL => put_name(out, w, &src[at + 2..at + 2 + number]),
         _ => put_marked(out, w, b'x', number, b'['),
     }
 }
@@ -35,7 +36,7 @@ pub fn put_before(out: &mut [u8], w: usize, src: &[u8], at: usize, position: usi
     if position == 0 {
         return w;
     }
-    if src[at] == 2 {
+    if src[at] == kinds::BINARY {
         let operator = leading_number(src, at);
         out[w] = b' ';
         return put_marked(out, w + 1, b'o', operator, b' ');
@@ -50,8 +51,8 @@ pub fn put_closing(out: &mut [u8], w: usize, src: &[u8], at: usize) -> usize
     ensures { PutsAt (PhysicalAt src.now at) closing_of w out.old out.new result }
 {
     let mark = match src[at] {
-        0 | 1 => return w,
-        2 => b')',
+        kinds::COLUMN | kinds::LITERAL => return w,
+        kinds::BINARY => b')',
         _ => b']',
     };
     out[w] = mark;

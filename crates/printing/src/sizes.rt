@@ -5,6 +5,7 @@ ghost use Rattle.printing.specs.Marks.{PhysicalWith, OfPhysicalWith, own_size};
 use super::decimals::decimal_width;
 use super::fields::leading_number;
 use expression::fields::short_at;
+use expression::kinds;
 
 // How many characters the node at a place, of so many children, has besides theirs.
 #[tactic(auto, using(crate::proofs::SizeLaws::width_small))]
@@ -16,10 +17,10 @@ pub fn own_size(src: &[u8], at: usize, children: usize) -> usize
     let width = decimal_width(number);
     let commas = children.saturating_sub(1);
     match src[at] {
-        0 => 2 + width + decimal_width(short_at(src, at + 3)),
-        1 => 18 + width,
-        2 => 5 + width,
-        3 => 4 + width + number + commas,
+        kinds::COLUMN => 2 + width + decimal_width(short_at(src, at + 3)),
+        kinds::LITERAL => 18 + width,
+        kinds::BINARY => 5 + width,
+        kinds::CALL => 4 + width + number + commas,
         _ => 3 + width + commas,
     }
 }

@@ -16,7 +16,7 @@ use Rattle.expression.specs.Heads.{HeadIs}
 use Rattle.expression.specs.declared.heads.Head.{Head}
 use Rattle.expression.proofs.Placed.{fits}
 use Rattle.expression.proofs.Standing.{tree-length, kind-is, first-stands, some-children, no-children, after-head}
-use Rattle.expression.proofs.EndWalk.{one-row}
+use Rattle.expression.proofs.Standing.{one-row}
 use Rattle.expression.proofs.OneTree.{of_tree}
 use Rattle.expression.proofs.InOrder.{and_then, then-bytes, opened-row, as-few}
 use Rattle.byte_writer.specs.Written.{WroteAt}

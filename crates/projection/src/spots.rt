@@ -6,6 +6,7 @@ ghost use Rattle.projection.specs.Rows.{ColumnsFit, ColumnsCollected, RecordsFit
 
 use expression::fields::short_at;
 use expression::heads::head_at;
+use expression::kinds;
 use plan_writer::records::Records;
 use terms::sides::JoinSide;
 
@@ -34,7 +35,7 @@ pub fn collect_columns(row: &mut [u32], src: &[u8], at: usize, side: JoinSide, i
     let mut index = i;
     let mut left: usize = 1;
     while 0 < left {
-        if src[end] == 0 {
+        if src[end] == kinds::COLUMN {
             row[index] = spot_number(side, end + 1, short_at(src, end + 1));
             index += 1;
             end += 5;

@@ -22,6 +22,7 @@ use Rattle.expression.proofs.Placed.{fits, front, back}
 use Rattle.byte_writer.specs.Written.{Wrote, WroteAt}
 use Rattle.byte_writer.specs.Writing.{Room, PutsAt, same}
 use Rattle.byte_writer.proofs.Written.{chain, to_start}
+use Rattle.filter_tree.proofs.Changing.{Changing, change-goes-on}
 use Rattle.filter_tree.proofs.ColumnPlaces.{columns_at, index_in, each-column, column-index, columns-within}
 use Rattle.node_table.specs.declared.NodeRecord.{NodeRecord as Lent}
 use Rattle.filter_tree.specs.Trees.{Node, OfNode}
@@ -74,25 +75,6 @@ module _ {n : ℕ} {s : List ℕ} {nodes : List Lent} {cut : Cut} {at : ℕ} {t 
       }
 
 -- ---- a loop over columns that changes a value at each one outside the leaf
-
--- Something holds of each place that is left, and what the loop makes of the value at those places is the goal.
-pub record Changing {A : Type 0} (P : ℕ → Type 0) (f : A → ℕ → A) (goal : A) (left : List ℕ) (now : A) : Type 0 where
-  pub each : All P left
-  pub rest : fold f now left ≡ goal
-
-module _ {A : Type 0} {P : ℕ → Type 0} {f : A → ℕ → A} {goal now : A} {left : List ℕ} (inv : Changing P f goal left now) where
-  pub change-ends : left ≡ [] → now ≡ goal
-  change-ends is = sym (ap (fold f now) is) ∙ inv.rest
-
-  module _ {place : ℕ} {more : List ℕ} (is : left ≡ place ∷ more) where
-    pub change-here : P place
-    change-here = (subst (All P) is inv.each).0
-
-    pub change-goes-on : (after : A) → after ≡ f now place → Changing P f goal more after
-    change-goes-on after told = record {
-      each = (subst (All P) is inv.each).1;
-      rest = ap (λ (a : A). fold f a more) told ∙ sym (ap (fold f now) is) ∙ inv.rest;
-    }
 
 abbrev pub outside_only : {A : Type 0} → Cut → (A → ℕ → A) → A → (place : ℕ) → A
 outside_only cut f a place = if outside cut place then f a place else a

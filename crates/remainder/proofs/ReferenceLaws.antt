@@ -3,7 +3,7 @@ use Prim.Native.Nat.{ℕ, ◌+◌, ◌≤◌, ◌<◌}
 use native.Mathlib.Omega.{arith}
 use mathlib.Core.Path.{◌≡◌, refl, sym, ap, ◌∙◌, subst}
 use mathlib.Core.Bool.{Bool, true}
-use mathlib.Core.List.{List, [], ◌∷◌, ◌++◌, append-nil, append_assoc}
+use mathlib.Core.List.{List, ◌++◌, append-nil, append_assoc}
 use lib.ListN.{length, get_or, set, length-set}
 use Rattle.definitions.specs.Words.Basics.{big_endian}
 use Rattle.definitions.specs.Words.Expression.{Expr, column, Exprs, nil, cons}
@@ -20,11 +20,6 @@ use Rattle.expression.proofs.OneTree.{of_tree}
 use Rattle.expression.proofs.InOrder.{and_then, UpTo, alone, first-up-to, opened, none-up-to, some-up-to}
 use Rattle.plan_writer.proofs.Fields.{column-is, column-size}
 use Rattle.remainder.specs.References.{marked, Flagged, Collected}
-
-marked_append : (x y : List ℕ) (flags : List Bool) → marked (x ++ y) flags ≡ marked y (marked x flags)
-unfolding marked
-marked_append [] y flags = refl
-marked_append (i ∷ x) y flags = marked_append x y (set flags i true)
 
 columns-then : (ts us : Exprs) → columns_of_all (and_then ts us) ≡ columns_of_all ts ++ columns_of_all us
 unfolding and_then columns_of_all

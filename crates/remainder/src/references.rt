@@ -5,6 +5,7 @@ ghost use Rattle.remainder.specs.References.{Flagged, Collected};
 
 use expression::fields::short_at;
 use expression::heads::head_at;
+use expression::kinds;
 
 // Marks the columns of the expression that stands from one place up to another. Its nodes stand one after another, so that a step is as
 // long as a node's head.
@@ -14,7 +15,7 @@ pub fn collect_column_references(used: &mut [bool], src: &[u8], at: usize, end: 
 {
     let mut next = at;
     while next < end {
-        if src[next] == 0 {
+        if src[next] == kinds::COLUMN {
             used[short_at(src, next + 1)] = true;
             next += 5;
         } else {

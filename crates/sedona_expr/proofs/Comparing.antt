@@ -3,31 +3,27 @@ use Rattle.std.specs.Prelude.{if◌then◌else◌, Option, Some, None}
 use Rattle.std.specs.Bool.{then_some}
 use Prim.Native.Nat.{ℕ, ◌+◌, ◌<◌}
 use native.Mathlib.Omega.{arith}
-use mathlib.Core.Path.{◌≡◌, refl, sym, ap, ◌∙◌, subst, subst⁻¹}
+use mathlib.Core.Path.{◌≡◌, refl, sym, ap, ◌∙◌, subst}
 use mathlib.Core.Bool.{Bool, true, false, ◌||◌}
 use mathlib.Core.List.{List}
 use mathlib.Core.Option.{none, some}
-use lib.ListN.{length}
 use lib.Dec.{eqb}
 use borrow.Author.Tests.{ne_eqb}
 use Rattle.definitions.specs.Words.Basics.{ascii, same_name}
-use Rattle.definitions.specs.Words.Expression.{Expr, nil, cons}
-use Rattle.definitions.specs.Bytes.Encode.{expr_bytes}
+use Rattle.definitions.specs.Words.Expression.{Expr}
 use Rattle.definitions.specs.Words.Leaves.{compares, no_comparison, comparison, distance_arguments}
 use Rattle.definitions.specs.Bytes.Decode.{Columns}
 use Rattle.definitions.specs.Bytes.Good.{nodes as nodes_in}
 use Rattle.expression.specs.Places.{part}
-use Rattle.expression.specs.Nodes.{Stands, Row, Tree, OfTree}
-use Rattle.expression.specs.Leaves.{Pair, CallIs, NodeIs, plain_column, plain_literal, plain_other, plain_field}
+use Rattle.expression.specs.Nodes.{Stands}
+use Rattle.expression.specs.Leaves.{CallIs, NodeIs, plain_column, plain_literal, plain_other, plain_field}
 use Rattle.expression.specs.declared.leaves.Called.{Called}
 use Rattle.expression.specs.declared.leaves.Node.{Node}
 use Rattle.expression.specs.declared.leaves.Node.TheVariants.{And, Binary, Call, Plain}
-use Rattle.expression.proofs.Standing.{first-stands}
-use Rattle.expression.proofs.Parts.{pair-right}
 use Rattle.node_table.specs.declared.NodeRecord.{NodeRecord as Lent}
 use Rattle.filter_tree.specs.Trees.{Node as Within, OfNode, Indexed, TreePair, OfTreePair}
 use Rattle.filter_tree.proofs.Children.{noded-first}
-use Rattle.filter_tree.proofs.Indexes.{index-first, index-second}
+use Rattle.filter_tree.proofs.Indexes.{index-first, index-second, starts-there}
 use Rattle.sedona_expr.specs.Parsed.{compared, ComparedIs, DistanceIs}
 use Rattle.sedona_expr.specs.declared.utils.Compared.{Compared}
 
@@ -60,12 +56,6 @@ no-sides operator l r h =
       ne_eqb operator 4 (λ e. omega arith),
     )
 
--- The sides of two expressions in a row.
-pub sides-found : {c : Columns} {s : List ℕ} {left : ℕ} {l r : Expr} → Row c s left 2 (cons l (cons r nil)) → (right : ℕ)
-    → OfTree s left (λ t. right ≡ left + length (expr_bytes t)) → (operator : ℕ) {answer : Option Compared}
-    → answer ≡ compared operator left right → ComparedIs (Stands c s) answer (comparison operator l r)
-sides-found {c} {s} row right ends = told-sides (Stands c s) (first-stands row) (pair-right row right ends)
-
 -- The sides of two expressions that have indexes have them too.
 module _ {s : List ℕ} {nodes : List Lent} {i : ℕ} where
   pub pair-node : TreePair s nodes i → Within nodes i
@@ -80,14 +70,7 @@ module _ {s : List ℕ} {nodes : List Lent} {i : ℕ} where
 -- Each stands where its record says.
 pub starts : {c : Columns} {s : List ℕ} {nodes : List Lent} {k p : ℕ} {t : Expr} → Indexed c s nodes k t → OfNode nodes k (λ at t. p ≡ at)
     → Stands c s p t
-starts {c} {s} {t = t} h start = subst⁻¹ (λ p. Stands c s p t) (start h.at t h.noded) h.stands
-
--- So there is something to measure.
-pub measured-there : {s : List ℕ} {left : ℕ} (pair : Pair s left) (right : ℕ) → OfTree s left (λ t. right ≡ left + length (expr_bytes t))
-    → (operator : ℕ) {sides : Compared} → Some sides ≡ compared operator left right → Tree s sides.measured
-measured-there pair right ends operator is =
-    let sides = sides-found pair.3 right ends operator is in
-    (pair.0, sides.m, sides.stands_measured)
+starts h start = starts-there h.stands h.noded start
 
 -- A node that is no function has none.
 pub no_arguments : (c : Columns) (s : List ℕ) (at : ℕ) (t : Expr) (node : Node) → ((k : Called) → node ≡ Call k → ⊥)

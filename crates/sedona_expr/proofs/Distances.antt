@@ -19,7 +19,7 @@ use Rattle.expression.specs.Places.{part}
 use Rattle.expression.specs.Nodes.{head_bytes, children_of, Row}
 use Rattle.expression.specs.Leaves.{Both, CallStands, CallIs, PlainNode, plain_column, plain_literal, plain_other, plain_field}
 use Rattle.expression.specs.declared.leaves.Called.{Called}
-use Rattle.expression.proofs.Parts.{two-of, three-of}
+use Rattle.expression.proofs.Standing.{two-of, three-of}
 use Rattle.node_table.specs.declared.NodeRecord.{NodeRecord as Lent}
 use Rattle.filter_tree.specs.Trees.{NodedAll, Node, OfNode, Indexed}
 use Rattle.filter_tree.proofs.Children.{noded-first}
@@ -48,10 +48,6 @@ form-read (Err why) is e = cc
 pub form-unread : {n : ℕ} (read : Result DistanceForm Refusal) → FormIs n read → None ≡ result_ok read → 4 < n
 form-unread (Ok f) is e = cc
 form-unread (Err why) is e = is.0
-
-more-count : (a b : Expr) (more : Exprs) → 2 ≤ count (cons a (cons b more))
-unfolding count
-more-count a b more = omega arith
 
 -- ---- comparisons
 

@@ -1,5 +1,5 @@
 -- `flags_verdict`: a flag that was read has ten bytes, and after it stands that of ties.
-use Rattle.expression.proofs.EndWalk.{first-there, rest-there}
+use Rattle.expression.proofs.Standing.{first-there, rest-there}
 use Rattle.leaf_verdicts.proofs.OptionLaws.{flags-none, spheroid-missing, flag-next, flags-told}
 use Rattle.leaf_verdicts.proofs.options.flags_verdict.Goals as goal
 

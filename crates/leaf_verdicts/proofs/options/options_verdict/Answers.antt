@@ -1,5 +1,5 @@
 -- `options_verdict`: a k that is right has ten bytes, and after it stand the flags.
-use Rattle.expression.proofs.EndWalk.{first-there, rest-there}
+use Rattle.expression.proofs.Standing.{first-there, rest-there}
 use Rattle.leaf_verdicts.proofs.OptionLaws.{options-none, k-wrong, k-next, k-right}
 use Rattle.leaf_verdicts.proofs.options.options_verdict.Goals as goal
 

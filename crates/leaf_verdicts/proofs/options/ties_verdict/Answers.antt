@@ -1,5 +1,5 @@
 -- `ties_verdict`: only the first literal of the row is a flag for ties.
-use Rattle.expression.proofs.EndWalk.{first-there}
+use Rattle.expression.proofs.Standing.{first-there}
 use Rattle.leaf_verdicts.proofs.OptionLaws.{ties-none, ties-told}
 use Rattle.leaf_verdicts.proofs.options.ties_verdict.Goals as goal
 

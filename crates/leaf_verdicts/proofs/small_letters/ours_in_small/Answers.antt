@@ -3,7 +3,7 @@ use native.Mathlib.Omega.{arith}
 use mathlib.Core.Path.{sym, ap}
 use Rattle.std.proofs.Common.{inl, inr}
 use Rattle.definitions.specs.Filter.Verdicts as definitions
-use Rattle.expression.proofs.There.{call-there}
+use Rattle.expression.proofs.LeafLaws.{call-there}
 use Rattle.leaf_verdicts.proofs.LaidLaws.{index-node, index-within, index-tree, laid-found, laid-pair}
 use Rattle.leaf_verdicts.proofs.SmallLaws.{plain-small}
 use Rattle.leaf_verdicts.proofs.small_letters.ours_in_small.Goals as goal

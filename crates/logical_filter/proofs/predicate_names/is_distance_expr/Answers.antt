@@ -1,7 +1,7 @@
 -- `is_distance_expr`: only a function has a name, and it is compared in small letters.
 use mathlib.Core.Path.{ap, ◌∙◌}
 use Rattle.definitions.specs.Words.Basics.{ascii, same_name}
-use Rattle.expression.proofs.There.{call-there}
+use Rattle.expression.proofs.LeafLaws.{call-there}
 use Rattle.logical_filter.proofs.NameWalk.{no_distance, no_call, small-name}
 use Rattle.logical_filter.proofs.predicate_names.is_distance_expr.Goals as goal
 

@@ -3,7 +3,7 @@ use Rattle.definitions.specs.Bytes.Decode.{Columns}
 use Rattle.definitions.specs.Words.Expression.{Expr}
 use Rattle.expression.specs.Leaves.{NodeIs}
 use Rattle.expression.specs.Nodes.{Stands}
-use Rattle.expression.proofs.There.{call-there}
+use Rattle.expression.proofs.LeafLaws.{call-there}
 use Rattle.filter_tree.specs.Trees.{Noded}
 use Rattle.filter_tree.proofs.Scans.{noded-within}
 use Rattle.filter_tree.proofs.Indexes.{both-noded}

@@ -14,7 +14,7 @@ operator : (c : After-leading_number-operator) → let a = c.args in (t : Expr)
     → PhysicalAt a.src.now a.at t → before_of a.position t ≡ 32 ∷ marked_number 111 c.leading_number-operator.result 32
 operator c =
     operator-before c.args.position c.if-position-eq0.false
-    c.if-src-at-eq2.true c.leading_number-operator.result c.leading_number-operator.ensures
+    c.if-src-at-eq-BINARY.true c.leading_number-operator.result c.leading_number-operator.ensures
 
 pub returns-then-position-eq0 : goal.returns-then-position-eq0
 returns-then-position-eq0 c =
@@ -32,17 +32,17 @@ pub put_marked-requires : goal.put_marked-requires
 put_marked-requires c =
     after-fits 32 _ (known-fits (operator (goal.at.put_marked-requires c).After-leading_number-operator) c.requires)
 
-pub returns-then-src-at-eq2 : goal.returns-then-src-at-eq2
-returns-then-src-at-eq2 c =
-    known-puts (operator (goal.at.returns-then-src-at-eq2 c).After-leading_number-operator)
-    (after-written 32 _ (known-fits (operator (goal.at.returns-then-src-at-eq2 c).After-leading_number-operator) c.requires)
+pub returns-then-src-at-eq-BINARY : goal.returns-then-src-at-eq-BINARY
+returns-then-src-at-eq-BINARY c =
+    known-puts (operator (goal.at.returns-then-src-at-eq-BINARY c).After-leading_number-operator)
+    (after-written 32 _ (known-fits (operator (goal.at.returns-then-src-at-eq-BINARY c).After-leading_number-operator) c.requires)
     c.put_marked.ensures)
 
 pub bounds-out-w-2 : goal.bounds-out-w-2
 bounds-out-w-2 c =
-    mark-fits 44 (known-fits (comma-before c.args.position c.if-position-eq0.false c.if-src-at-eq2.false) c.requires)
+    mark-fits 44 (known-fits (comma-before c.args.position c.if-position-eq0.false c.if-src-at-eq-BINARY.false) c.requires)
 
 pub returns : goal.returns
 returns c =
-    let is = comma-before c.args.position c.if-position-eq0.false c.if-src-at-eq2.false in
+    let is = comma-before c.args.position c.if-position-eq0.false c.if-src-at-eq-BINARY.false in
     known-puts is (mark-written 44 (known-fits is c.requires))

@@ -20,29 +20,29 @@ pub short_at-requires : goal.short_at-requires
 short_at-requires c =
     omega (
       arith,
-      (column-within c.requires (c.loop-left.invariant c.requires) (omega (arith, c.loop-left-test.true)) c.if-src-end-eq0.true).bytes,
+      (column-within c.requires (c.loop-left.invariant c.requires) (omega (arith, c.loop-left-test.true)) c.if-src-end-eq-COLUMN.true).bytes,
     )
 
 pub spot_number-requires : goal.spot_number-requires
 spot_number-requires c =
-    let own = column-within c.requires (c.loop-left.invariant c.requires) (omega (arith, c.loop-left-test.true)) c.if-src-end-eq0.true in
+    let own = column-within c.requires (c.loop-left.invariant c.requires) (omega (arith, c.loop-left-test.true)) c.if-src-end-eq-COLUMN.true in
     (omega (arith, own.limit), omega (arith, c.short_at.ensures, own.child))
 
 pub bounds-row-index : goal.bounds-row-index
 bounds-row-index c =
-    (column-within c.requires (c.loop-left.invariant c.requires) (omega (arith, c.loop-left-test.true)) c.if-src-end-eq0.true).entry
+    (column-within c.requires (c.loop-left.invariant c.requires) (omega (arith, c.loop-left-test.true)) c.if-src-end-eq-COLUMN.true).entry
 
-pub loop-left-smaller-then-src-end-eq0 : goal.loop-left-smaller-then-src-end-eq0
-loop-left-smaller-then-src-end-eq0 c =
+pub loop-left-smaller-then-src-end-eq-COLUMN : goal.loop-left-smaller-then-src-end-eq-COLUMN
+loop-left-smaller-then-src-end-eq-COLUMN c =
     omega (
       arith,
-      (column-within c.requires (c.loop-left.invariant c.requires) (omega (arith, c.loop-left-test.true)) c.if-src-end-eq0.true).bytes,
+      (column-within c.requires (c.loop-left.invariant c.requires) (omega (arith, c.loop-left-test.true)) c.if-src-end-eq-COLUMN.true).bytes,
     )
 
-pub loop-left-preserved-then-src-end-eq0 : goal.loop-left-preserved-then-src-end-eq0
-loop-left-preserved-then-src-end-eq0 c =
+pub loop-left-preserved-then-src-end-eq-COLUMN : goal.loop-left-preserved-then-src-end-eq-COLUMN
+loop-left-preserved-then-src-end-eq-COLUMN c =
     λ p.
-    column-passed p (c.loop-left.invariant p) (omega (arith, c.loop-left-test.true)) c.if-src-end-eq0.true c.spot_number.result
+    column-passed p (c.loop-left.invariant p) (omega (arith, c.loop-left-test.true)) c.if-src-end-eq-COLUMN.true c.spot_number.result
     (c.spot_number.ensures
     ∙ ap (λ (n : ℕ). spot_number (record { side = join_side c.args.side; at = c.loop-left.end + 1; child = n })) c.short_at.ensures)
 
@@ -56,7 +56,7 @@ overflow_add-left c =
     omega (
       arith,
       c.well_formed,
-      left-few c.requires (c.loop-left.invariant c.requires) (omega (arith, c.loop-left-test.true)) c.if-src-end-eq0.false
+      left-few c.requires (c.loop-left.invariant c.requires) (omega (arith, c.loop-left-test.true)) c.if-src-end-eq-COLUMN.false
           head.result head.ensures,
     )
 
@@ -68,14 +68,14 @@ loop-left-smaller c =
     omega (
       arith,
       node-some (collecting-tree c.requires inv some).1,
-      head-later c.requires inv some c.if-src-end-eq0.false head.result head.ensures,
+      head-later c.requires inv some c.if-src-end-eq-COLUMN.false head.result head.ensures,
     )
 
 pub loop-left-preserved : goal.loop-left-preserved
 loop-left-preserved c =
     λ p.
     let head = c.head_at-head in
-    head-passed p (c.loop-left.invariant p) (omega (arith, c.loop-left-test.true)) c.if-src-end-eq0.false head.result head.ensures
+    head-passed p (c.loop-left.invariant p) (omega (arith, c.loop-left-test.true)) c.if-src-end-eq-COLUMN.false head.result head.ensures
 
 pub returns : goal.returns
 returns c =

@@ -26,21 +26,21 @@ bounds-src-next c =
 pub short_at-requires : goal.short_at-requires
 short_at-requires c =
     let k = kept (goal.at.short_at-requires c).In-loop-next in
-    omega (arith, (column-flag k c.loop-next-test.true c.if-src-next-eq0.true).0)
+    omega (arith, (column-flag k c.loop-next-test.true c.if-src-next-eq-COLUMN.true).0)
 
 pub bounds-used-short_at : goal.bounds-used-short_at
 bounds-used-short_at c =
     let k = kept (goal.at.bounds-used-short_at c).In-loop-next in
-    omega (arith, c.short_at.ensures, (column-flag k c.loop-next-test.true c.if-src-next-eq0.true).1)
+    omega (arith, c.short_at.ensures, (column-flag k c.loop-next-test.true c.if-src-next-eq-COLUMN.true).1)
 
-pub overflow_add-next-then-src-next-eq0 : goal.overflow_add-next-then-src-next-eq0
-overflow_add-next-then-src-next-eq0 c =
-    let k = kept (goal.at.overflow_add-next-then-src-next-eq0 c).In-loop-next in
-    omega (arith, c.well_formed, (column-flag k c.loop-next-test.true c.if-src-next-eq0.true).0)
+pub overflow_add-next-then-src-next-eq-COLUMN : goal.overflow_add-next-then-src-next-eq-COLUMN
+overflow_add-next-then-src-next-eq-COLUMN c =
+    let k = kept (goal.at.overflow_add-next-then-src-next-eq-COLUMN c).In-loop-next in
+    omega (arith, c.well_formed, (column-flag k c.loop-next-test.true c.if-src-next-eq-COLUMN.true).0)
 
-pub loop-next-preserved-then-src-next-eq0 : goal.loop-next-preserved-then-src-next-eq0
-loop-next-preserved-then-src-next-eq0 c =
-    λ p. rw (c.short_at.ensures) (column-passed (c.loop-next.invariant p) c.loop-next-test.true c.if-src-next-eq0.true)
+pub loop-next-preserved-then-src-next-eq-COLUMN : goal.loop-next-preserved-then-src-next-eq-COLUMN
+loop-next-preserved-then-src-next-eq-COLUMN c =
+    λ p. rw (c.short_at.ensures) (column-passed (c.loop-next.invariant p) c.loop-next-test.true c.if-src-next-eq-COLUMN.true)
 
 pub head_at-next-requires : goal.head_at-next-requires
 head_at-next-requires c =
@@ -50,13 +50,13 @@ pub loop-next-smaller : goal.loop-next-smaller
 loop-next-smaller c =
     let k = kept (goal.at.loop-next-smaller c).In-loop-next in
     let head = c.head_at-next in
-    omega (arith, c.loop-next-test.true, head-later k c.loop-next-test.true c.if-src-next-eq0.false head.result head.ensures)
+    omega (arith, c.loop-next-test.true, head-later k c.loop-next-test.true c.if-src-next-eq-COLUMN.false head.result head.ensures)
 
 pub loop-next-preserved : goal.loop-next-preserved
 loop-next-preserved c =
     λ p.
     let head = c.head_at-next in
-    head-passed (c.loop-next.invariant p) c.loop-next-test.true c.if-src-next-eq0.false head.result head.ensures
+    head-passed (c.loop-next.invariant p) c.loop-next-test.true c.if-src-next-eq-COLUMN.false head.result head.ensures
 
 pub returns : goal.returns
 returns c =

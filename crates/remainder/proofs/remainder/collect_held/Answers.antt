@@ -5,7 +5,8 @@ use mathlib.Core.Bool.{true}
 use lib.ListN.{set}
 use Rattle.remainder.specs.HeldIndexes.{Marks}
 use Rattle.remainder.proofs.FlagLaws.{held-marks}
-use Rattle.remainder.proofs.LeftCopies.{first-node, mark_column, marking-begins, change-here, change-outside, change-inside, change-ends}
+use Rattle.filter_tree.proofs.Changing.{change-here, change-ends}
+use Rattle.remainder.proofs.LeftCopies.{first-node, mark_column, marking-begins, change-outside, change-inside}
 use Rattle.remainder.proofs.remainder.collect_held.Goals as goal
 
 pub columns-place-items-requires : goal.columns-place-items-requires

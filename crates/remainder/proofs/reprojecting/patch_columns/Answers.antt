@@ -4,7 +4,8 @@ use native.Mathlib.Omega.{arith}
 use mathlib.Core.Path.{sym, ap, ◌∙◌}
 use lib.ListN.{length, get_or}
 use Rattle.remainder.proofs.LeftCopies.{first-node, left-movable, PatchPlace, renumber, renumber-put, patching-begins}
-use Rattle.remainder.proofs.LeftCopies.{change-here, change-outside, change-inside, change-ends}
+use Rattle.filter_tree.proofs.Changing.{change-here, change-ends}
+use Rattle.remainder.proofs.LeftCopies.{change-outside, change-inside}
 use Rattle.remainder.proofs.reprojecting.patch_columns.Goals as goal
 use Rattle.remainder.proofs.reprojecting.patch_columns.Goals.{In-Some}
 
