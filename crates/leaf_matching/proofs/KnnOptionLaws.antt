@@ -13,7 +13,7 @@ use Rattle.definitions.specs.Bytes.Decode.{Columns}
 use Rattle.definitions.specs.Filter.Match.{literal_k, literal_bool, ask_nothing, knn_literals, knn_request_by}
 use Rattle.expression.specs.Nodes.{Row, OfTree, OfTrees}
 use Rattle.expression.proofs.Standing.{first-stands, rest-stands, no-children, some-children}
-use Rattle.expression.proofs.Parts.{two-of}
+use Rattle.expression.proofs.Standing.{two-of}
 use Rattle.leaf_matching.proofs.LiteralLaws.{k-ten, flag-ten}
 use Rattle.sedona_query_planner.specs.Predicates.{flag}
 use Rattle.leaf_matching.specs.KnnOptions.{spheroid_of, ties_of, FlagsAre, OptionsAre}

@@ -1,20 +1,19 @@
 -- Laws of literals: what stands in their bytes, and what number or flag they are.
-use Rattle.std.specs.Prelude.{if◌then◌else◌, Result, Ok, Err, OkIff}
+use Rattle.std.specs.Prelude.{if◌then◌else◌}
 use Rattle.std.specs.Bool.{then_some}
-use Rattle.std.specs.Result.{result_ok}
-use Rattle.std.specs.Int.{FitsUnsignedBits}
 use Prim.Native.Nat.{ℕ, zero, suc, ◌+◌, ◌*◌, ◌-◌, ◌/◌, ◌%◌, ◌≤◌, ◌<◌}
 use native.Mathlib.Omega.{arith}
 use native.Mathlib.Nat.{add-zero}
 use mathlib.Core.Path.{◌≡◌, refl, sym, ap, ap₂, ◌∙◌}
-use mathlib.Core.Bool.{true, not, ◌||◌}
+use mathlib.Core.Bool.{true, false, not, ◌||◌, false≢true}
 use mathlib.Core.List.{List, [], ◌∷◌}
 use mathlib.Core.Logic.{◌⊎◌, inl, inr, ⊎_elim}
 use mathlib.Core.Option.{Option, none, some, some-ne-none}
 use lib.ListN.{length, get_or}
 use lib.IntN.{ℤ, pos, negsuc, nat_abs}
+use lib.Signed.{lt_z}
 use lib.Dec.{eqb}
-use borrow.Author.Tests.{le-leb, lt-leb, ne_eqb, leb-true}
+use borrow.Author.Tests.{le-leb, lt-leb, ne_eqb, leb-true, ltb-true, ltb-false}
 use Rattle.definitions.specs.Words.Basics.{given◌then◌else◌, big_endian}
 use Rattle.definitions.specs.Words.Expression.{Expr, column, literal, and, binary, call, other, field}
 use Rattle.definitions.specs.Bytes.Encode.{expr_bytes}
@@ -58,17 +57,27 @@ long-is {s} {at} {v} h b =
 
 -- ---- numbers of 32 bits
 
-pub u32-of : {E : Type 0} (n : ℕ) (read : Result ℕ E) → OkIff read (n < 4294967296) n → number_is (result_ok read) ≡ u32 (pos n)
+pub u32-few : (n : ℕ) → n ≤ 4294967295 → some n ≡ u32 (pos n)
 unfolding u32
-u32-of n (Ok x) is = rw (le-leb n 4294967295 (omega (arith, is.0))) (ap some is.1)
-u32-of n (Err why) is = rw (lt-leb n 4294967295 (omega (arith, is)))
+u32-few n few = rw (le-leb n 4294967295 few) refl
 
-pub u32-of-signed : {E : Type 0} (z : ℤ) (read : Result ℕ E) → OkIff read (FitsUnsignedBits 32 z) (nat_abs z)
-    → number_is (result_ok read) ≡ u32 z
+pub u32-many : (n : ℕ) → 4294967295 < n → none ≡ u32 (pos n)
 unfolding u32
-u32-of-signed (pos n) read is = u32-of n read is
-u32-of-signed (negsuc n) (Ok x) is = absurd is.0
-u32-of-signed (negsuc n) (Err why) is = refl
+u32-many n many = rw (lt-leb n 4294967295 many) refl
+
+-- A number with a sign is one of them, is below 0, or is more than the greatest.
+pub u32-of-signed : (z : ℤ) → lt_z z (pos 0) ≡ false → lt_z (pos 4294967295) z ≡ false → some (nat_abs z) ≡ u32 z
+u32-of-signed (pos n) low high = u32-few n (ltb-false 4294967295 n high)
+u32-of-signed (negsuc n) low high = absurd (false≢true (sym low))
+
+pub u32-negative : (z : ℤ) → lt_z z (pos 0) ≡ true → none ≡ u32 z
+unfolding u32
+u32-negative (pos n) low = absurd (omega (arith, ltb-true n 0 low))
+u32-negative (negsuc n) low = refl
+
+pub u32-great : (z : ℤ) → lt_z (pos 4294967295) z ≡ true → none ≡ u32 z
+u32-great (pos n) high = u32-many n (ltb-true 4294967295 n high)
+u32-great (negsuc n) high = absurd (false≢true high)
 
 -- ---- by type
 

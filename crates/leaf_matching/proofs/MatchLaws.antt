@@ -21,7 +21,7 @@ use Rattle.leaf_matching.proofs.Framing.{first-over, rest_over}
 use Rattle.expression.specs.Leaves.{OfCall}
 use Rattle.node_table.specs.declared.NodeRecord.{NodeRecord as Lent}
 use Rattle.filter_tree.specs.Trees.{NodedAll}
-use Rattle.expression.proofs.Parts.{two-of}
+use Rattle.expression.proofs.Standing.{two-of}
 
 -- ---- the first two arguments of a function
 

@@ -1,7 +1,7 @@
 -- The columns of an argument: what the loop over them keeps, and of two arguments in a row.
 use Rattle.std.specs.Prelude.{Option, fold}
 use Prim.Native.Nat.{ℕ, ◌+◌, ◌*◌, ◌≤◌}
-use mathlib.Core.Path.{◌≡◌, refl, sym, ap, ap₂, ◌∙◌, subst}
+use mathlib.Core.Path.{◌≡◌, refl, sym, ap, ap₂, ◌∙◌}
 use mathlib.Core.List.{List, [], ◌∷◌, map}
 use lib.ListN.{length, get_or}
 use Rattle.definitions.specs.Words.Expression.{Side, Expr, column, Record}
@@ -18,6 +18,7 @@ use Rattle.expression.proofs.Standing.{kind-is}
 use Rattle.terms.specs.Sides.{join_side}
 use Rattle.terms.specs.declared.sides.JoinSide.{JoinSide}
 use Rattle.node_table.specs.declared.NodeRecord.{NodeRecord as Lent}
+use Rattle.filter_tree.proofs.Changing.{Changing, change-here, change-goes-on}
 use Rattle.filter_tree.specs.Columns.{OfColumns}
 use Rattle.filter_tree.specs.Trees.{Node, OfNode, Begin}
 use Rattle.filter_tree.proofs.Children.{noded-first, noded-rest}
@@ -74,9 +75,9 @@ module _ {s : List ℕ} {rec at : ℕ} {records : List Record} (p : ColumnOver s
   over-entry = entry-within (records, column p.0 p.1, p.2) column-kind
 
 -- What a loop keeps over the columns that are left.
-pub record SeesLeft (s : List ℕ) (rec : ℕ) (left : List ℕ) (now : SeenSides) (records : List Record) (t : Expr) : Type 0 where
-  pub each : All (ColumnOver s rec records) left
-  pub rest : fold (see_column s records) now left ≡ see_all nothing_seen (sides_in records (columns_of t))
+abbrev pub SeesLeft : (s : List ℕ) (rec : ℕ) (left : List ℕ) (now : SeenSides) (records : List Record) (t : Expr) → Type 0
+SeesLeft s rec left now records t =
+    Changing (ColumnOver s rec records) (see_column s records) (see_all nothing_seen (sides_in records (columns_of t))) left now
 
 pub left-begins : {s : List ℕ} {rec : ℕ} {nodes : List Lent} {i : ℕ} {left : List ℕ} → OfColumns s nodes i left
     → OfArgument s rec nodes i (SeesLeft s rec left nothing_seen)
@@ -93,21 +94,16 @@ left-begins {s} {rec} {left = left} are records t a =
     all-mapped [] f = tt
     all-mapped (p ∷ left) f = ((f.0.0, f.0.1, record { entries = a.over.entries; tree = f.0.2 }), all-mapped left f.1)
 
-module _ {s : List ℕ} {rec : ℕ} {left more : List ℕ} {place : ℕ} {seen : SeenSides} {records : List Record} {t : Expr}
-    (inv : SeesLeft s rec left seen records t) (is : left ≡ place ∷ more) where
+module _ {s : List ℕ} {rec : ℕ} {left more : List ℕ} {place : ℕ} {seen goal : SeenSides} {records : List Record}
+    (inv : Changing (ColumnOver s rec records) (see_column s records) goal left seen) (is : left ≡ place ∷ more) where
   pub left-here : ColumnOver s rec records place
-  left-here = (subst (All (ColumnOver s rec records)) is inv.each).0
+  left-here = change-here inv is
 
   pub left-more : (index : ℕ) → index ≡ short_at s (place + 1) → (side : JoinSide)
       → join_side side ≡ side_numbered (get_or s (rec + 5 * index) 0) → (now : SeenSides) → now ≡ see seen (join_side side)
-      → SeesLeft s rec more now records t
-  left-more index number side told now saw = record {
-    each = (subst (All (ColumnOver s rec records)) is inv.each).1;
-    rest =
-        ap (λ (x : SeenSides). fold (see_column s records) x more)
-        (saw ∙ ap (see seen) (column-side left-here.2 (column-kind left-here) index number told))
-        ∙ sym (ap (fold (see_column s records) seen) is) ∙ inv.rest;
-  }
+      → Changing (ColumnOver s rec records) (see_column s records) goal more now
+  left-more index number side told now saw =
+      change-goes-on inv is now (saw ∙ ap (see seen) (column-side left-here.2 (column-kind left-here) index number told))
 
 -- ---- two arguments in a row
 

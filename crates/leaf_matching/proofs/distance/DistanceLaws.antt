@@ -18,8 +18,8 @@ use Rattle.expression.specs.Nodes.{OfTreeIn}
 use Rattle.sedona_expr.specs.Parsed as parsed
 use Rattle.sedona_expr.specs.declared.utils.ParsedDistancePredicate.{ParsedDistancePredicate}
 use Rattle.node_table.specs.declared.NodeRecord.{NodeRecord as Lent}
-use Rattle.filter_tree.specs.Trees.{Node, OfNode, Indexed}
-use Rattle.filter_tree.proofs.Indexes.{index-node, index-spans}
+use Rattle.filter_tree.specs.Trees.{OfNode, Indexed}
+use Rattle.filter_tree.proofs.Indexes.{index-spans}
 use Rattle.leaf_matching.specs.Frames as frames
 use Rattle.leaf_matching.specs.Frames.{Over, Framed, Argued, OfArgument}
 use Rattle.terms.specs.Forms.{form_number}
@@ -107,15 +107,6 @@ module _ {s : List ℕ} {nodes : List Lent} {rec at : ℕ} {p : ParsedDistancePr
 
     pub distance-argued : Argued s rec nodes p.distance
     distance-argued = (framed.0, _, distance-at framed.2)
-
-    pub arg0-node : Node nodes p.arg0
-    arg0-node = index-node (asks framed.2).arg0
-
-    pub arg1-node : Node nodes p.arg1
-    arg1-node = index-node (asks framed.2).arg1
-
-    pub distance-node : Node nodes p.distance
-    distance-node = index-node (asks framed.2).distance
 
 -- The side of the argument of an index.
 abbrev pub SideAt : (s : List ℕ) (rec : ℕ) (nodes : List Lent) (i : ℕ) → Sides → Type 0

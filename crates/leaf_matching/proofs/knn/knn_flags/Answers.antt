@@ -1,6 +1,6 @@
 -- `knn_flags`: a literal has ten bytes, so the second flag stands ten bytes on.
 use native.Mathlib.Omega.{arith}
-use Rattle.expression.proofs.EndWalk.{first-there, rest-there}
+use Rattle.expression.proofs.Standing.{first-there, rest-there}
 use Rattle.leaf_matching.proofs.KnnOptionLaws.{flags-none, flags-unread, flag-next, flags-one, ties-unread, flags-two}
 use Rattle.leaf_matching.proofs.knn.knn_flags.Goals as goal
 

@@ -1,5 +1,5 @@
 -- `knn_options`: a literal has ten bytes, so the flags stand ten bytes after k.
-use Rattle.expression.proofs.EndWalk.{first-there, rest-there}
+use Rattle.expression.proofs.Standing.{first-there, rest-there}
 use Rattle.leaf_matching.proofs.KnnOptionLaws.{options-none, k-unread, k-next, options-unread, options-read}
 use Rattle.leaf_matching.proofs.knn.knn_options.Goals as goal
 
