@@ -1,44 +1,20 @@
 -- A whole frame: its length and first byte, its body, its end, and what is tested last.
-mod Recorded
 use Prim.Native.Nat.{ℕ, ◌≤◌, ◌<◌}
 use native.Mathlib.Omega.{arith}
 use mathlib.Core.Path.{◌≡◌, refl, sym, ap, ◌∙◌}
 use mathlib.Core.Bool.{Bool, true, false}
-use mathlib.Core.List.{List, [], ◌∷◌, ◌++◌}
+use mathlib.Core.List.{List, [], ◌∷◌}
 use lib.ListN.{length, drop, length-drop, drop_of_length-le}
 use lib.Dec.{eqb}
 use borrow.Author.Tests.{eqb-true, eqb-false}
-use Rattle.definitions.specs.Words.Expression.{Expr, Record}
-use Rattle.definitions.specs.Bytes.Encode.{records_bytes}
-use Rattle.definitions.specs.Bytes.Readers.{Read, read, stopped, Reader, continue, ◌>>=◌, ◌>>◌, require, byte, repeat, require_length, none_left, at_end}
-use Rattle.definitions.specs.Bytes.Decode.{index_below, one_record}
-use Rattle.definitions.specs.Bytes.Good.{AllBytes, nodes}
-use Rattle.theorems.proofs.ReaderLaws.{after, halts, passes, fails}
+use Rattle.definitions.specs.Bytes.Readers.{Read, read, stopped, Reader, continue, ◌>>=◌, ◌>>◌, require, byte, require_length, none_left, at_end}
+use Rattle.theorems.proofs.ReaderLaws.{after, halts, passes, fails, step}
 use Rattle.std.specs.Prelude.{Result, Ok, Err}
 use Rattle.std.proofs.Common.{◌⊎◌, inl, inr}
 use Rattle.terms.specs.declared.refusals.Refusal.{Refusal}
-use Rattle.node_reader.specs.Fields.{FieldIs, ReadsAt}
-use Rattle.node_reader.specs.Places.{ExprAt}
-use Rattle.frame_reader.specs.Frames.{FrameAt, first_of, opening}
+use Rattle.node_reader.specs.Fields.{FieldIs}
+use Rattle.frame_reader.specs.Frames.{first_of, opening}
 use Rattle.node_reader.proofs.Reading.{within, outside}
-use Rattle.frame_reader.proofs.Wholes.Recorded.{recorded}
-use Rattle.node_reader.proofs.Standing.{bytes-from, between}
-
--- Records and an expression that were read one after the other are a frame there.
-pub frame-stands : (s : List ℕ) (first root next columns many : ℕ) (rs : List Record) (x : Expr) → AllBytes s → first ≤ length s
-    → root ≤ length s
-    → ReadsAt s first root rs (repeat columns one_record) → ExprAt (index_below columns) s root next x → many ≡ nodes x
-    → FrameAt s (record { columns = columns; records = first; root = root; nodes = many }) next
-    (record { records = rs; expr = x })
-frame-stands s first root next columns many rs x bytes low high reads stands sized =
-    let back : (drop first s ≡ records_bytes rs ++ drop root s) × (length rs ≡ columns) =
-    recorded columns 0 0 (drop first s) (drop root s) rs (bytes-from first s bytes) (reads 0) in
-    record {
-      counted = sym back.1;
-      records = between s (records_bytes rs) first root low high back.0;
-      expr = rw back.1 stands;
-      sized = sized;
-    }
 
 -- ---- the length
 
@@ -110,6 +86,11 @@ module _ {A B : Type 0} (sort : ℕ) (body : Reader A) (last : A → Reader B) w
     module _ (at : ℕ) (t : Bool) (e : opening sort 0 s ≡ read t 0 (drop at s)) where
       pub body-stops : {number : ℕ} → body 0 (drop at s) ≡ stopped number → whole 0 s ≡ stopped number
       body-stops f = grouped s ∙ after _ e ∙ halts _ f
+
+      -- A whole that was read has a body that was, and what was left to do was done.
+      pub body-was : {G : Type 0} {b : B} {m : ℕ} {u : List ℕ} → whole 0 s ≡ read b m u
+          → ((a : A) (n : ℕ) (v : List ℕ) → body 0 (drop at s) ≡ read a n v → (at_end >> last a) n v ≡ read b m u → G) → G
+      body-was is go = step (body 0 (drop at s)) _ (sym (grouped s ∙ after _ e) ∙ is) go
 
       module _ (a : A) (next count : ℕ) (f : body 0 (drop at s) ≡ read a count (drop next s)) where
         pub ends : next ≡ length s → whole 0 s ≡ last a count (drop next s)

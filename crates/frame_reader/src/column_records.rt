@@ -4,19 +4,23 @@ ghost use Rattle.definitions.specs.Bytes.Readers as readers;
 ghost use Rattle.definitions.specs.Bytes.Decode as decode;
 ghost use Rattle.node_reader.specs.Fields.{FieldIs, SkippedIs};
 
-use node_reader::field_readers::{number, side_up_to};
+use node_reader::field_readers::number;
+use node_reader::head_readers::cut_field;
 use terms::refusals::Refusal;
 
 // A column's record: side, child index, field tag.
-#[tactic(auto, unfolding(definitions::specs::Bytes::Decode::one_record))]
+#[inline(always)]
 fn one_record(s: &[u8], at: usize) -> Result<usize, Refusal>
     requires { at ≤ length s.now }
     ensures { SkippedIs s.now at result decode.one_record }
 {
-    let (_, child) = side_up_to(s, at, 2)?;
-    let (_, tag) = number(s, child, 2)?;
-    let (_, next) = number(s, tag, 2)?;
-    Ok(next)
+    if s.len() - at < 5 {
+        return Err(cut_field(s, at, 2));
+    }
+    if 2 < s[at] {
+        return Err(Refusal::OutOfRange);
+    }
+    Ok(at + 5)
 }
 
 // So many records.

@@ -1,16 +1,17 @@
 // A frame's parts, and what is said of a frame that was read.
-ghost use Rattle.std.specs.Prelude.{◌≤◌, ◌<◌, length};
+ghost use Rattle.std.specs.Prelude.{◌≤◌, ◌<◌, ◌-◌, ◌≡◌, length};
 ghost use Rattle.definitions.specs.Words.Limits.{most_nodes, two_bytes};
 ghost use Rattle.definitions.specs.Bytes.Decode as decode;
 ghost use Rattle.node_reader.specs.Fields.{FieldIs, SkippedIs};
 ghost use Rattle.filter_tree.specs.Trees.{RecordedIfRoom};
-ghost use Rattle.frame_reader.specs.Frames.{BodyIs, first_of, opening};
+ghost use Rattle.frame_reader.specs.Frames.{HeadIs, BodyIs, BodyHeld, first_of, opening};
 
 use super::column_records::{record_count, records};
 use filter_tree::tree::Tree;
 use node_reader::call_heads::Columns;
-use node_reader::expressions::fill_expression;
+use node_reader::expressions::{fill_expression, held_expression};
 use node_reader::field_readers::byte;
+use node_reader::walk::Walked;
 use node_table::NodeRecord;
 use terms::refusals::Refusal;
 
@@ -38,9 +39,53 @@ pub struct Counted<T> {
     pub count: usize,
 }
 
+// What comes before a frame's expression: how many records it has, where they start, and where the expression does.
+#[derive(Clone, Copy)]
+pub struct FrameHead {
+    pub columns: u64,
+    pub records: usize,
+    pub root: usize,
+}
+
+// The records of a physical frame after its first byte.
+#[tactic(auto, unfolding(definitions::specs::Bytes::Decode::frame_body))]
+fn frame_head(s: &[u8], at: usize) -> Result<FrameHead, Refusal>
+    requires { at ≤ length s.now }
+    ensures { HeadIs s.now at result }
+{
+    let (columns, first) = record_count(s, at)?;
+    let root = records(s, first, columns)?;
+    Ok(FrameHead {
+        columns,
+        records: first,
+        root,
+    })
+}
+
+// A frame with this head, whose expression was walked with so many nodes counted before it.
+fn body_of(head: FrameHead, walked: Walked, before: usize) -> Counted<Frame>
+    requires { before ≤ walked.count }
+    ensures { result ≡ record {
+      read = record { columns = head.columns; records = head.records; root = head.root; nodes = walked.count - before };
+      next = walked.next;
+      count = walked.count;
+    } }
+{
+    let frame = Frame {
+        columns: head.columns as usize,
+        records: head.records,
+        root: head.root,
+        nodes: walked.count - before,
+    };
+    Counted {
+        read: frame,
+        next: walked.next,
+        count: walked.count,
+    }
+}
+
 // A physical frame after its first byte, with so many nodes counted before it; its own go into the row from there on, as far as this has
 // places.
-#[tactic(auto, unfolding(definitions::specs::Bytes::Decode::frame_body))]
 pub fn frame_body(
     row: &mut [NodeRecord],
     s: &[u8],
@@ -50,20 +95,19 @@ pub fn frame_body(
     requires { (at ≤ length s.now) × (length s.now < two_bytes) × (nodes ≤ most_nodes) }
     ensures { BodyIs s.now at nodes result decode.frame_body (RecordedIfRoom row.new) }
 {
-    let (columns, first) = record_count(s, at)?;
-    let root = records(s, first, columns)?;
-    let walked = fill_expression(row, s, root, nodes, Columns::Below(columns))?;
-    let frame = Frame {
-        columns: columns as usize,
-        records: first,
-        root,
-        nodes: walked.count - nodes,
-    };
-    Ok(Counted {
-        read: frame,
-        next: walked.next,
-        count: walked.count,
-    })
+    let head = frame_head(s, at)?;
+    let walked = fill_expression(row, s, head.root, nodes, Columns::Below(head.columns))?;
+    Ok(body_of(head, walked, nodes))
+}
+
+// The same of a frame whose nodes are the table's first; one that has others is refused.
+pub fn held_body(table: &[NodeRecord], s: &[u8], at: usize) -> Result<Counted<Frame>, Refusal>
+    requires { at ≤ length s.now }
+    ensures { BodyHeld s.now at table.now result }
+{
+    let head = frame_head(s, at)?;
+    let walked = held_expression(table, s, head.root, 0, Columns::Below(head.columns))?;
+    Ok(body_of(head, walked, 0))
 }
 
 // The first byte of a frame that is neither empty nor too long.

@@ -4,16 +4,34 @@ ghost use Rattle.definitions.specs.Words.Limits.{most_nodes};
 ghost use Rattle.definitions.specs.Bytes.Plans as plans;
 ghost use Rattle.filter_tree.specs.Trees.{Recorded};
 ghost use Rattle.node_reader.specs.Places.{NoClaim};
-ghost use Rattle.frame_reader.specs.Frames.{Roomy, PhysicalIs, LogicalIs};
+ghost use Rattle.frame_reader.specs.Frames.{Roomy, BodyRead, PhysicalIs, PhysicalHeld, LogicalIs};
 
 use super::arity::all_have_arguments;
-use super::frame_bodies::{Frame, frame_body, opened};
+use super::frame_bodies::{Counted, Frame, frame_body, held_body, opened};
 use filter_tree::lengths::{MIDDLE_BYTES, MIDDLE_NODES, MOST_NODES, SHORT_BYTES, SHORT_NODES};
 use filter_tree::tree::Tree;
 use node_reader::call_heads::Columns;
 use node_reader::expressions::fill_expression;
 use node_table::{NO_RECORD, NodeRecord};
 use terms::refusals::Refusal;
+
+// The frame of a body whose nodes are the first of these records, if the bytes end with it and its AND-leaves have their arguments.
+fn whole_frame(s: &[u8], nodes: &[NodeRecord], body: Counted<Frame>) -> Result<Frame, Refusal>
+    requires { BodyRead s.now nodes.now body }
+    ensures { PhysicalIs s.now result (plans.frame_of s.now) (Recorded nodes.now) }
+{
+    if body.next != s.len() {
+        return Err(Refusal::BytesAfterEnd);
+    }
+    let tree = Tree {
+        bytes: s,
+        nodes: &nodes[..body.count],
+    };
+    if !all_have_arguments(tree, 0) {
+        return Err(Refusal::TooFewArguments);
+    }
+    Ok(body.read)
+}
 
 // A whole physical frame, whose nodes go into the row.
 pub fn physical_frame_in(row: &mut [NodeRecord], s: &[u8]) -> Result<Frame, Refusal>
@@ -22,17 +40,16 @@ pub fn physical_frame_in(row: &mut [NodeRecord], s: &[u8]) -> Result<Frame, Refu
 {
     let at = opened(s, 1)?;
     let body = frame_body(row, s, at, 0)?;
-    if body.next != s.len() {
-        return Err(Refusal::BytesAfterEnd);
-    }
-    let tree = Tree {
-        bytes: s,
-        nodes: &row[..body.count],
-    };
-    if !all_have_arguments(tree, 0) {
-        return Err(Refusal::TooFewArguments);
-    }
-    Ok(body.read)
+    whole_frame(s, row, body)
+}
+
+// A whole physical frame whose nodes are the table's first; one that has others is refused.
+pub fn physical_frame_held(table: &[NodeRecord], s: &[u8]) -> Result<Frame, Refusal>
+    ensures { PhysicalHeld s.now table.now result (plans.frame_of s.now) }
+{
+    let at = opened(s, 1)?;
+    let body = held_body(table, s, at)?;
+    whole_frame(s, table, body)
 }
 
 // A whole physical frame, by a row of N places on the stack, of which its nodes need no more.

@@ -15,7 +15,10 @@ use Rattle.node_reader.specs.declared.walk.Walked.{Walked}
 use Rattle.std.specs.Prelude.{Result, Ok, Err}
 use Rattle.terms.specs.declared.refusals.Refusal.{Refusal}
 use Rattle.node_reader.specs.Visits.{VisitIs}
-use Rattle.node_reader.specs.Places.{ExpressionIs}
+use Rattle.node_reader.specs.Places.{ExpressionIs, ExpressionHeld}
+use Rattle.node_reader.specs.Visitors.{RecordsAre}
+use Rattle.node_table.specs.declared.NodeRecord.{NodeRecord as Lent}
+use Rattle.filter_tree.specs.Trees.{Recorded}
 use Rattle.expression.specs.Places.{Between}
 use Rattle.expression.specs.Nodes.{Stands}
 use Rattle.std.proofs.Common.{inl, inr}
@@ -46,21 +49,36 @@ module _ (c : Columns) (s : List ℕ) (at levels count : ℕ) (bytes : AllBytes 
       }
 
 -- The walk of a root is the reading of an expression, which stands there; what its visitor holds then says what is claimed.
-module _ (c : Columns) (s : List ℕ) (at before : ℕ) (bytes : AllBytes s) (within : at ≤ length s) (few : before ≤ 1024)
-    (visited : (end index : ℕ) → Expr → Type 0) (claim : (at i : ℕ) → Expr → Type 0)
-    (says : (end : ℕ) (e : Expr) → visited end (before + nodes e) e → claim at before e) where
-  pub expression-stands : (r : Result Walked Refusal) → VisitIs s at before r (node c 64) ⊥ visited (λ e. ⊥)
-      → ExpressionIs s at before r c claim
+module _ (c : Columns) (s : List ℕ) (at before : ℕ) (bytes : AllBytes s) (within : at ≤ length s) (few : before ≤ 1024) where
+  module _ (visited : (end index : ℕ) → Expr → Type 0) (claim : (at i : ℕ) → Expr → Type 0)
+      (says : (end : ℕ) (e : Expr) → visited end (before + nodes e) e → claim at before e) where
+    read-stands : (walked : Walked) → VisitIs s at before (Ok walked) (node c 64) ⊥ visited (λ e. ⊥)
+        → ExpressionIs s at before (Ok walked) c claim
+    unfolding expression
+    read-stands walked (place, e, reads, visits) =
+        let b = back c s at 64 before bytes within few walked.next reads in
+        let there = node-there c s at 64 before bytes within few place reads in (
+          e,
+          reads,
+          record { bytes = there.span; readable = record { in_range = b.in_range; shallow = b.shallow } },
+          there.counted,
+          b.few,
+          says walked.next e (subst (λ (k : ℕ). visited walked.next k e) there.counted visits),
+        )
+
+    pub expression-stands : (r : Result Walked Refusal) → VisitIs s at before r (node c 64) ⊥ visited (λ e. ⊥)
+        → ExpressionIs s at before r c claim
+    unfolding expression
+    expression-stands (Ok walked) h = read-stands walked h
+    expression-stands (Err why) (inl stops) = stops
+    expression-stands (Err why) (inr (some, refuse)) = absurd some
+
+  -- The same where its records are held to a table's.
+  pub expression-held : (table : List Lent) (r : Result Walked Refusal)
+      → VisitIs s at before r (node c 64) (Unit {0}) (RecordsAre at before table) (λ e. Recorded table at before e → ⊥)
+      → ExpressionHeld s at before table r c
   unfolding expression
-  expression-stands (Ok walked) (place, e, reads, visits) =
-      let b = back c s at 64 before bytes within few walked.next reads in
-      let there = node-there c s at 64 before bytes within few place reads in (
-        e,
-        reads,
-        record { bytes = there.span; readable = record { in_range = b.in_range; shallow = b.shallow } },
-        there.counted,
-        b.few,
-        says walked.next e (subst (λ (k : ℕ). visited walked.next k e) there.counted visits),
-      )
-  expression-stands (Err why) (inl stops) = stops
-  expression-stands (Err why) (inr (some, refuse)) = absurd some
+  expression-held table (Ok walked) h =
+      read-stands (RecordsAre at before table) (Recorded table) (λ end e same. same.2) walked h
+  expression-held table (Err why) (inl stops) = inl stops
+  expression-held table (Err why) (inr (some, refuse)) = inr refuse

@@ -43,6 +43,6 @@ OtherKind kind = (kind ≡ 1 → ⊥) × (kind ≡ 2 → ⊥) × (kind ≡ 3 →
 abbrev pub BeyondIs : List ℕ → (at : ℕ) → decode.Columns → Refusal → Type 0
 BeyondIs s at c why = number_of why ≡ (if decode.allowed_kind c (get_or s at 0) then 5 else 4)
 
--- The refusal of a head that is cut off, of which the first field is to be at most `most`: for that field, if it is there.
+-- The refusal of fields that are cut off, of which the first is to be at most `most`: for that field, if it is there.
 abbrev pub CutFieldIs : List ℕ → (at most : ℕ) → Refusal → Type 0
 CutFieldIs s at most why = number_of why ≡ (if ltb at (length s) && ltb most (get_or s at 0) then 4 else 3)

@@ -3,10 +3,9 @@ ghost use Rattle.std.specs.Prelude.{ℕ, ◌≡◌, ◌≤◌, ◌<◌, length};
 ghost use Rattle.definitions.specs.Words.Limits.{most_nodes, two_bytes};
 ghost use Rattle.definitions.specs.Bytes.Decode as decode;
 ghost use Rattle.node_reader.specs.Heads.{columns_of, columns_in};
-ghost use Rattle.node_reader.specs.Visits.{NodeVisit, VisitIs, Counted};
-ghost use Rattle.filter_tree.specs.Trees.{Recorded, RecordedIfRoom};
-ghost use Rattle.node_reader.specs.Places.{ExpressionIs, NoClaim};
-ghost use Rattle.node_reader.specs.Visitors.{RecordsAre};
+ghost use Rattle.node_reader.specs.Visits.{NodeVisit, Counted};
+ghost use Rattle.filter_tree.specs.Trees.{RecordedIfRoom};
+ghost use Rattle.node_reader.specs.Places.{ExpressionIs, ExpressionHeld, NoClaim};
 
 use super::call_heads::{Columns, Source};
 use super::visitors::{Check, Fill, Nothing};
@@ -49,7 +48,7 @@ pub fn root<V: Visit>(
         (decode.node (columns_of columns) 64) v.old v.new }
 {
     match columns {
-        Columns::Below(bound) => { only_child::<V, 0>(v, &Source { bytes: s, bound }, at, count) }
+        Columns::Below(bound) => only_child::<V, 0>(v, &Source { bytes: s, bound }, at, count),
         Columns::Fields => only_child::<V, 5>(v, &Source { bytes: s, bound: 0 }, at, count),
     }
 }
@@ -78,8 +77,7 @@ pub fn held_expression(
     columns: Columns,
 ) -> Result<Walked, Refusal>
     requires { (at ≤ length s.now) × (count ≤ most_nodes) }
-    ensures { VisitIs s.now at count result (decode.node (columns_of columns) 64)
-        (Unit {0}) (RecordsAre at count table.now) (λ t. Recorded table.now at count t → ⊥) }
+    ensures { ExpressionHeld s.now at count table.now result (columns_of columns) }
 {
     let mut check = Check { table };
     root(&mut check, s, at, count, columns)

@@ -31,7 +31,16 @@ pub fn long_at(s: &[u8], at: usize) -> u64
     requires { at + 8 ≤ length s.now }
     ensures { result ≡ long_at s.now at }
 {
-    u64::from_be_bytes(*s[at..].first_chunk().unwrap())
+    u64::from_be_bytes([
+        s[at],
+        s[at + 1],
+        s[at + 2],
+        s[at + 3],
+        s[at + 4],
+        s[at + 5],
+        s[at + 6],
+        s[at + 7],
+    ])
 }
 
 // The byte at a place.

@@ -1,5 +1,5 @@
 // A node's head: its kind, and the fields before its children.
-ghost use Rattle.std.specs.Prelude.{ℕ, ◌≡◌, ◌<◌, ◌+◌, length};
+ghost use Rattle.std.specs.Prelude.{ℕ, ◌≡◌, ◌≤◌, ◌<◌, ◌+◌, length};
 ghost use Rattle.definitions.specs.Bytes.Decode as decode;
 ghost use Rattle.node_reader.specs.Heads.{HeadIs, CutFieldIs, BeyondIs, any_kind, OtherKind, columns_in};
 
@@ -7,6 +7,7 @@ use super::call_heads::{Source, call_head};
 use super::field_readers::long_at;
 use expression::fields::short_at;
 use expression::heads::Head;
+use expression::kinds;
 use expression::literals::literal_in_range;
 use terms::refusals::Refusal;
 
@@ -14,10 +15,10 @@ use terms::refusals::Refusal;
 fn allowed_kind<const COLUMN: u8>(kind: u8) -> bool
     ensures { (bound : ℕ) → result ≡ decode.allowed_kind (columns_in COLUMN bound) kind }
 {
-    if COLUMN == 0 {
-        kind <= 4
+    if COLUMN == kinds::COLUMN {
+        kind <= kinds::OTHER
     } else {
-        1 <= kind && kind <= 5
+        kinds::LITERAL <= kind && kind <= kinds::FIELD
     }
 }
 
@@ -35,14 +36,14 @@ pub fn limit_refusal<const COLUMN: u8>(s: &[u8], at: usize) -> Refusal
     }
 }
 
-// The refusal of a head of two fields that runs over the end: a first field of more than `most` comes first.
+// The refusal of fields that run over the end: a first one of more than `most` comes first.
 #[cold]
 #[inline(never)]
-fn cut_field(s: &[u8], at: usize, most: u8) -> Refusal
-    requires { at < length s.now }
-    ensures { CutFieldIs s.now (at + 1) most result }
+pub fn cut_field(s: &[u8], at: usize, most: u8) -> Refusal
+    requires { at ≤ length s.now }
+    ensures { CutFieldIs s.now at most result }
 {
-    if 2 <= s.len() - at && most < s[at + 1] {
+    if at < s.len() && most < s[at] {
         return Refusal::OutOfRange;
     }
     Refusal::EndsInsideField
@@ -73,7 +74,7 @@ fn field_head(s: &[u8], at: usize) -> Result<Head, Refusal>
     ensures { HeadIs s.now (at + 1) result (λ child. decode.field_node) }
 {
     if s.len() - at < 4 {
-        return Err(cut_field(s, at, 3));
+        return Err(cut_field(s, at + 1, 3));
     }
     if 3 < s[at + 1] {
         return Err(Refusal::OutOfRange);
@@ -91,11 +92,11 @@ fn any_column_head<const COLUMN: u8>(source: &Source, at: usize, kind: u8) -> Re
     requires other { OtherKind kind }
     ensures { HeadIs source.now.bytes.now (at + 1) result (any_kind (columns_in COLUMN source.now.bound) kind) }
 {
-    if COLUMN == 0 {
-        if kind == 0 {
+    if COLUMN == kinds::COLUMN {
+        if kind == kinds::COLUMN {
             return column_head(source.bytes, at, source.bound);
         }
-    } else if kind == 5 {
+    } else if kind == kinds::FIELD {
         return field_head(source.bytes, at);
     }
     Err(Refusal::OutOfRange)
@@ -108,7 +109,7 @@ fn literal_head(s: &[u8], at: usize) -> Result<Head, Refusal>
     ensures { HeadIs s.now (at + 1) result (λ child. decode.literal_node) }
 {
     if s.len() - at < 10 {
-        return Err(cut_field(s, at, 6));
+        return Err(cut_field(s, at + 1, 6));
     }
     let kind = s[at + 1];
     if 6 < kind || !literal_in_range(u64::from(kind), long_at(s, at + 2)) {
@@ -166,10 +167,10 @@ pub fn head_of_kind<const COLUMN: u8>(source: &Source, at: usize, kind: u8) -> R
 {
     let s = source.bytes;
     match kind {
-        1 => literal_head(s, at),
-        2 => binary_head(s, at),
-        3 => call_head(s, at),
-        4 => other_head(s, at),
+        kinds::LITERAL => literal_head(s, at),
+        kinds::BINARY => binary_head(s, at),
+        kinds::CALL => call_head(s, at),
+        kinds::OTHER => other_head(s, at),
         _ => any_column_head::<COLUMN>(source, at, kind),
     }
 }

@@ -25,8 +25,9 @@ impl Visit for Fill<'_> {
     fn open(&mut self, i: usize, kind: u8, at: usize) -> bool {
         let row = &mut *self.row;
         if i < row.len() {
-            row[i].kind = kind;
-            row[i].start = at as u16;
+            let record = &mut row[i];
+            record.kind = kind;
+            record.start = at as u16;
         }
         true
     }
@@ -44,9 +45,10 @@ impl Visit for Fill<'_> {
     fn leaf(&mut self, i: usize, kind: u8, at: usize, end: usize) -> bool {
         let row = &mut *self.row;
         if i < row.len() {
-            row[i].kind = kind;
-            row[i].start = at as u16;
-            row[i].end = end as u16;
+            let record = &mut row[i];
+            record.kind = kind;
+            record.start = at as u16;
+            record.end = end as u16;
         }
         true
     }

@@ -2,28 +2,21 @@
 use Prim.Native.Nat.{◌+◌}
 use native.Mathlib.Omega.{arith}
 use mathlib.Core.Path.{refl, ◌∙◌}
-use mathlib.Core.Logic.{⊎_elim}
 use borrow.Author.Tests.{lt-ltb, le-ltb}
-use Rattle.std.proofs.lemmas.Bool.{cases_lt}
-use lib.ListN.{length}
 use Rattle.definitions.specs.Words.Expression.{column}
 use Rattle.expression.specs.Nodes.{children_of}
 use Rattle.expression.specs.Places.{short_at}
 use Rattle.definitions.specs.Bytes.Decode.{column_node}
-use Rattle.theorems.proofs.ReaderLaws.{after, halts, passes, fails}
+use Rattle.theorems.proofs.ReaderLaws.{after, passes, fails}
 use Rattle.node_reader.proofs.Children.{childless}
 use Rattle.node_reader.proofs.FieldBytes.{short-read}
-use Rattle.node_reader.proofs.Numbers.{number-ends}
+use Rattle.node_reader.proofs.CutHeads.{cut-shorts}
 use Rattle.node_reader.proofs.head_readers.column_head.Goals as goal
 
 pub returns-then-s-at-lt5 : goal.returns-then-s-at-lt5
 unfolding column_node
 returns-then-s-at-lt5 c =
-    λ child n.
-    let a = c.args in
-    ⊎_elim (λ h. halts _ (number-ends a.s.now (a.at + 1) 2 n (omega arith)))
-    (λ h. after _ (short-read a.s.now (a.at + 1) (a.at + 3) n (omega arith) (omega arith))
-    ∙ halts _ (number-ends a.s.now (a.at + 3) 2 n (omega arith))) (cases_lt (length a.s.now) (a.at + 3))
+    λ child n. cut-shorts c.args.s.now (c.args.at + 1) n _ (omega arith)
 
 pub returns-then-bound-short_at : goal.returns-then-bound-short_at
 unfolding column_node

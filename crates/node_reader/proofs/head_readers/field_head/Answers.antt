@@ -9,6 +9,7 @@ use Rattle.expression.specs.Places.{short_at}
 use Rattle.definitions.specs.Bytes.Decode.{field_node}
 use Rattle.theorems.proofs.ReaderLaws.{after, halts}
 use Rattle.node_reader.proofs.Children.{childless}
+use Rattle.node_reader.proofs.Numbers.{number-ends}
 use Rattle.node_reader.proofs.CutHeads.{cut-field}
 use Rattle.node_reader.proofs.FieldBytes.{up-out, up-read, short-read}
 use Rattle.node_reader.proofs.head_readers.field_head.Goals as goal
@@ -16,7 +17,8 @@ use Rattle.node_reader.proofs.head_readers.field_head.Goals as goal
 pub returns-then-s-at-lt4 : goal.returns-then-s-at-lt4
 unfolding field_node
 returns-then-s-at-lt4 c =
-    λ child n. cut-field c.args.s.now (c.args.at + 1) 3 2 n _ c.cut_field.result c.cut_field.ensures (omega arith)
+    λ child n. cut-field c.args.s.now (c.args.at + 1) 3 n _ c.cut_field.result c.cut_field.ensures
+    (λ a. halts _ (number-ends c.args.s.now (c.args.at + 1 + 1) 2 n (omega arith)))
 
 pub returns-then-s-at-gt3 : goal.returns-then-s-at-gt3
 unfolding field_node

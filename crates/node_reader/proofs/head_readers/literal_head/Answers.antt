@@ -10,6 +10,7 @@ use Rattle.definitions.specs.Bytes.Decode.{literal_node}
 use Rattle.theorems.proofs.ReaderLaws.{after, halts, passes, fails}
 use Rattle.node_reader.specs.Fields.{long_at}
 use Rattle.node_reader.proofs.Children.{childless}
+use Rattle.node_reader.proofs.Numbers.{number-ends}
 use Rattle.node_reader.proofs.CutHeads.{cut-field}
 use Rattle.node_reader.proofs.FieldBytes.{up-out, up-read, long-read}
 use Rattle.node_reader.proofs.head_readers.literal_head.Goals as goal
@@ -18,7 +19,8 @@ use Rattle.node_reader.proofs.head_readers.literal_head.Goals.{then-kind-gt6-via
 pub returns-then-s-at-lt10 : goal.returns-then-s-at-lt10
 unfolding literal_node
 returns-then-s-at-lt10 c =
-    λ child n. cut-field c.args.s.now (c.args.at + 1) 6 8 n _ c.cut_field.result c.cut_field.ensures (omega arith)
+    λ child n. cut-field c.args.s.now (c.args.at + 1) 6 n _ c.cut_field.result c.cut_field.ensures
+    (λ a. halts _ (number-ends c.args.s.now (c.args.at + 1 + 1) 8 n (omega arith)))
 
 pub returns-then-kind-gt6 : goal.returns-then-kind-gt6
 unfolding literal_node
