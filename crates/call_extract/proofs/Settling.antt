@@ -1,56 +1,35 @@
 -- The extract under settings, with a lent table or that of the frame's own nodes: 24 where they are not good, else the extract with their
--- matcher; with the default settings 01's.
+-- matcher; with the default settings that with `match_leaf`.
 use Rattle.std.specs.Prelude.{if◌then◌else◌, Option, Some, None}
 use Prim.Native.Nat.{ℕ, ◌<◌, ◌≤◌}
 use lib.ListN.{length, take}
 use mathlib.Core.Path.{◌≡◌, refl, ap, ◌∙◌}
 use mathlib.Core.Bool.{Bool, false}
 use mathlib.Core.List.{List}
-use Rattle.definitions.specs.Words.Basics.{ok, refused}
-use Rattle.definitions.specs.Words.Expression as tree
+use Rattle.definitions.specs.Words.Basics.{refused}
 use Rattle.definitions.specs.Filter.Extract.{Matcher}
 use Rattle.definitions.specs.Calls.Base.{finish, table_fits, extract_filled_by, extract_filled, walk_filled_by}
 use Rattle.definitions.specs.Filter.Settings.{Settings, good_settings, default_settings, match_under, GoodSettings}
 use Rattle.theorems.proofs.Proved.{default-settings}
 use Rattle.definitions.specs.Bytes.Plans.{plan_of}
 use Rattle.plan_reader.specs.Plans.{NotHeld, no_bytes, no_good}
-use Rattle.call_answers.proofs.Walking.{bad-refused, empty-refused, extracted-refused, long-refused}
+use Rattle.call_answers.proofs.Walking.{bad-refused, empty-refused, long-refused}
 use Rattle.call_answers.proofs.Settling.{lent-24, lent-settled}
 use Rattle.terms.specs.declared.refusals.Refusal.{Refusal}
-use Rattle.terms.specs.declared.refusals.Refusal.TheVariants.{NoGoodPlan, AlreadyExtracted, BadSettings}
+use Rattle.terms.specs.declared.refusals.Refusal.TheVariants.{NoGoodPlan, BadSettings}
 use Rattle.call_answers.specs.Outcomes.{ExtractIs, unwalked}
 use Rattle.call_answers.specs.declared.answers.Extracted.{Extracted}
 use Rattle.std.specs.Borrow.{Bor}
 use Rattle.node_table.specs.declared.NodeRecord.{NodeRecord as Lent}
 use Rattle.node_table.specs.Records.{nodes_of}
-use Rattle.call_extract.specs.Settled.{filled_under, walk_under, HeldBy, SettledBy}
-use Rattle.call_extract.proofs.Tables.{unheld, over-long, not-lent, extracted-lent}
+use Rattle.call_extract.specs.Settled.{filled_under, walk_under, SettledBy}
+use Rattle.call_extract.proofs.Tables.{unheld, over-long}
 
 -- Where neither a frame nor an extraction is held.
-not-extracted : (match : Matcher) (n : ℕ) (plan scratch : List ℕ) → n ≤ length plan → {why : Refusal} → NotHeld (plan_of (take n plan)) why
+pub not-extracted : (match : Matcher) (n : ℕ) (plan scratch : List ℕ) → n ≤ length plan → {why : Refusal} → NotHeld (plan_of (take n plan)) why
     → ExtractIs (extract_filled_by match n plan scratch) (walk_filled_by match n plan scratch) n plan scratch (unwalked why)
 not-extracted match n plan scratch fits (no_bytes e) = empty-refused match n plan scratch fits e
 not-extracted match n plan scratch fits (no_good number e) = bad-refused match n plan scratch fits number e
-
--- The same with any table or none, and where an extraction is held.
-module _ (match : Matcher) (n : ℕ) (plan scratch : List ℕ) (within : n ≤ length plan) where
-  pub not-held-by : (table : Option (Bor (List Lent))) {why : Refusal} → NotHeld (plan_of (take n plan)) why
-      → HeldBy match n table plan scratch plan scratch (unwalked why)
-  not-held-by (Some table) not = not-lent match n plan scratch (nodes_of table.now) within not
-  not-held-by None not = not-extracted match n plan scratch within not
-
-  pub extracted-by : (table : Option (Bor (List Lent))) (X : tree.Extraction) → plan_of (take n plan) ≡ ok (tree.extracted X)
-      → HeldBy match n table plan scratch plan scratch (unwalked AlreadyExtracted)
-  extracted-by (Some table) X e = extracted-lent match n plan scratch (nodes_of table.now) within X e
-  extracted-by None X e = extracted-refused match n plan scratch within X e
-
--- A plan buffer shorter than n holds nothing.
-pub long-by : (match : Matcher) (n : ℕ) (plan scratch : List ℕ) → length plan < n → (table : Option (Bor (List Lent)))
-    → HeldBy match n table plan scratch plan scratch (unwalked NoGoodPlan)
-unfolding table_fits
-long-by match n plan scratch long (Some table) =
-    unheld match n plan scratch (nodes_of table.now) (over-long n plan long) refl (long-refused match n plan scratch long)
-long-by match n plan scratch long None = long-refused match n plan scratch long
 
 module _ (S : Settings) (n : ℕ) (before scratch : List ℕ) where
   filled-24 : good_settings S ≡ false
@@ -68,10 +47,14 @@ module _ (S : Settings) (n : ℕ) (before scratch : List ℕ) where
   by-24 bad (Some table) = lent-24 S n before scratch (nodes_of table.now) bad
   by-24 bad None = filled-24 bad
 
-  pub by-settled : GoodSettings S → (table : Option (Bor (List Lent))) (after kept : List ℕ) (r : Extracted)
-      → HeldBy (match_under S) n table before scratch after kept r → SettledBy S n table before scratch after kept r
-  by-settled g (Some table) after kept r is = lent-settled S n before scratch (nodes_of table.now) g is
-  by-settled g None after kept r is = filled-settled g is
+  -- A plan buffer shorter than n holds nothing.
+  pub long-by : GoodSettings S → length before < n → (table : Option (Bor (List Lent)))
+      → SettledBy S n table before scratch before scratch (unwalked NoGoodPlan)
+  unfolding table_fits
+  long-by g long (Some table) =
+      lent-settled S n before scratch (nodes_of table.now) g
+      (unheld _ n before scratch (nodes_of table.now) (over-long n before long) refl (long-refused _ n before scratch long))
+  long-by g long None = filled-settled g (long-refused _ n before scratch long)
 
   pub filled-default : S ≡ default_settings → filled_under S n before scratch ≡ extract_filled n before scratch
   filled-default e =

@@ -1,4 +1,4 @@
--- Request 6 of document 02: the extract with a lent table. (Ours.)
+-- The extract with a lent table. (Ours.)
 use Rattle.std.specs.Prelude.{ℕ, List}
 use Rattle.definitions.specs.Bytes.NodeTable.{NodeRecord}
 use Rattle.definitions.specs.Filter.Extract.{Matcher}
@@ -13,7 +13,7 @@ abbrev pub ExtractsWith : Matcher → (n : ℕ) (before scratch : List ℕ) (tab
 ExtractsWith match n before scratch table after kept r =
     ExtractIs (extract_by match n before scratch table) (extract_walk_by match n before scratch table) n after kept r
 
--- and so is the call with settings (request 13).
+-- and so is the call with settings.
 abbrev pub ByTable : Settings → (n : ℕ) (before scratch : List ℕ) (table : List NodeRecord) (after kept : List ℕ) → Extracted → Type 0
 ByTable S n before scratch table after kept r =
     ExtractIs (extract_under S n before scratch table) (extract_walk_under S n before scratch table) n after kept r

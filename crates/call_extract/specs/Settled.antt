@@ -1,15 +1,14 @@
--- Request 13 of document 02: the extract under settings, with a lent table of nodes or that of its own nodes. (Ours.)
+-- The extract under settings, with a lent table of nodes or that of its own nodes. (Ours.)
 use Rattle.std.specs.Prelude.{ℕ, List, Option, Some, None, if◌then◌else◌}
 use Rattle.std.specs.Borrow.{Bor}
 use Rattle.definitions.specs.Words.Basics.{refused}
-use Rattle.definitions.specs.Filter.Extract.{Matcher}
 use Rattle.definitions.specs.Calls.Base.{Outcome, finish, extract_filled_by, walk_filled_by}
 use Rattle.definitions.specs.Filter.Settings.{Settings, good_settings, match_under}
 use Rattle.call_answers.specs.Outcomes.{ExtractIs}
 use Rattle.call_answers.specs.declared.answers.Extracted.{Extracted}
 use Rattle.node_table.specs.declared.NodeRecord.{NodeRecord as Lent}
 use Rattle.node_table.specs.Records.{nodes_of}
-use Rattle.call_extract.specs.ExtractByTable.{ExtractsWith, ByTable}
+use Rattle.call_extract.specs.ExtractByTable.{ByTable}
 
 -- 24 before every other check.
 abbrev pub filled_under : Settings → (n : ℕ) → (buffer scratch : List ℕ) → Outcome
@@ -20,14 +19,7 @@ filled_under S n buffer scratch =
 abbrev pub walk_under : Settings → (n : ℕ) → (buffer scratch : List ℕ) → ℕ
 walk_under S n buffer scratch = if good_settings S then walk_filled_by (match_under S) n buffer scratch else 0
 
--- The extract with a matcher, with the table that is lent or, where none is, that of its own nodes.
-abbrev pub HeldBy : Matcher → (n : ℕ) → Option (Bor (List Lent)) → (before scratch after kept : List ℕ) → Extracted → Type 0
-HeldBy match n (Some table) before scratch after kept r =
-    ExtractsWith match n before scratch (nodes_of table.now) after kept r
-HeldBy match n None before scratch after kept r =
-    ExtractIs (extract_filled_by match n before scratch) (walk_filled_by match n before scratch) n after kept r
-
--- The same under settings.
+-- With the table that is lent or, where none is, that of its own nodes.
 abbrev pub SettledBy : Settings → (n : ℕ) → Option (Bor (List Lent)) → (before scratch after kept : List ℕ) → Extracted → Type 0
 SettledBy S n (Some table) before scratch after kept r = ByTable S n before scratch (nodes_of table.now) after kept r
 SettledBy S n None before scratch after kept r =

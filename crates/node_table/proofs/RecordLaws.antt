@@ -1,13 +1,12 @@
 -- The records of a table whose first structs are those of a tree.
-use mathlib.Core.Path.{◌≡◌, sym, ◌∙◌, ap, ap₂}
+use mathlib.Core.Path.{◌≡◌, ◌∙◌, ap, ap₂}
 use Prim.Native.Nat.{ℕ, ◌<◌}
 use native.Mathlib.Omega.{arith}
-use mathlib.Core.List.{List, ◌++◌, map, map-append, map-map, map-id}
+use mathlib.Core.List.{List, ◌++◌, map-append}
 use lib.ListN.{length, take, drop, get_or}
 use lib.Seq.{length-take-le}
 use Rattle.std.proofs.lemmas.List.{ext_get_or}
 pub use Rattle.node_table.specs.Records.{struct_of, blank}
-use Rattle.expression.specs.Filling.{Records}
 use Rattle.node_table.specs.Records.{nodes_of, node_of, RowHas, FilledIs}
 use Rattle.node_table.specs.declared.NodeRecord.{NodeRecord}
 use Rattle.node_table.proofs.Filling.{map-take, map-drop}
@@ -16,13 +15,6 @@ use Rattle.node_table.proofs.Filling.{map-take, map-drop}
 pub same-first : (xs ys : List NodeRecord) → length ys ≡ length xs
     → ((j : ℕ) → j < length xs → get_or ys j blank ≡ get_or xs j blank) → ys ≡ xs
 same-first xs ys long each = ext_get_or blank ys xs long (λ j h. each j (omega (arith, long)))
-
--- Structs of the same records are the same.
-pub same-structs : (xs ys : List NodeRecord) → nodes_of xs ≡ nodes_of ys → xs ≡ ys
-same-structs xs ys e = sym (back xs) ∙ ap (map struct_of) e ∙ back ys
-  where
-    back : (xs : List NodeRecord) → map struct_of (nodes_of xs) ≡ xs
-    back xs = map-map struct_of node_of xs ∙ map-id xs
 
 -- A table whose first records became the first of such a row is filled with those of the expression.
 pub filled-first : (s : List ℕ) (root count : ℕ) (row table put : List NodeRecord) → RowHas s root count row

@@ -1,5 +1,5 @@
 -- The records that a lent table holds.
-use Rattle.std.specs.Prelude.{ℕ, ◌≤◌, ◌≡◌, Bool, true, false, List, map, ◌++◌, length, take, drop}
+use Rattle.std.specs.Prelude.{ℕ, ◌≤◌, ◌≡◌, List, map, ◌++◌, length, take, drop}
 use Rattle.definitions.specs.Bytes.NodeTable.{NodeRecord}
 use Rattle.expression.specs.Filling.{Records}
 use Rattle.node_table.specs.declared.NodeRecord.{NodeRecord as Lent}
@@ -28,12 +28,3 @@ FilledIs s root count before after =
 abbrev pub RowHas : List ℕ → (root count : ℕ) → (row : List Lent) → Type 0
 RowHas s root count row =
     (count ≤ length row) × ((records : List NodeRecord) → Records s root count records → take count (nodes_of row) ≡ records)
-
--- A table begins with these, or it does not.
-abbrev pub BeginsIs : (table nodes : List Lent) → Bool → Type 0
-BeginsIs table nodes true = take (length nodes) table ≡ nodes
-BeginsIs table nodes false = take (length nodes) table ≡ nodes → ⊥
-
-abbrev pub SameIs : (a b : Lent) → Bool → Type 0
-SameIs a b true = a ≡ b
-SameIs a b false = a ≡ b → ⊥

@@ -2,7 +2,6 @@
 #![tactic(auto)]
 
 ghost use Rattle.std.specs.Prelude.{◌≡◌, ◌++◌, ◌<◌, ◌≤◌, length, drop};
-ghost use Rattle.node_table.specs.Records.{BeginsIs, SameIs};
 
 // A node's kind, where it starts, and where it and all below it end.
 #[repr(C)]
@@ -38,26 +37,4 @@ pub fn put_nodes(table: &mut [NodeRecord], nodes: &[NodeRecord])
     for (i, place) in table[..count].iter_mut().enumerate() {
         put_record(place, nodes[i]);
     }
-}
-
-// Whether two records are the same.
-fn same_record(a: NodeRecord, b: NodeRecord) -> bool
-    ensures { SameIs a b result }
-{
-    a.kind == b.kind && a.start == b.start && a.end == b.end
-}
-
-// Whether a table begins with these records.
-pub fn begins_with(table: &[NodeRecord], nodes: &[NodeRecord]) -> bool
-    ensures { BeginsIs table.now nodes.now result }
-{
-    if table.len() < nodes.len() {
-        return false;
-    }
-    for (k, node) in nodes.iter().enumerate() {
-        if !same_record(table[k], *node) {
-            return false;
-        }
-    }
-    true
 }

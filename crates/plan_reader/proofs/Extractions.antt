@@ -24,14 +24,19 @@ use Rattle.theorems.proofs.InversePlan.{predicate-bytes}
 use Rattle.sedona_query_planner.specs.declared.spatial_predicate.SpatialPredicate.{SpatialPredicate}
 use Rattle.node_reader.specs.Fields.{ReadsAt}
 use Rattle.node_reader.specs.Places.{NoClaim}
-use Rattle.frame_reader.specs.Frames.{first_of, PhysicalIs}
+use Rattle.frame_reader.specs.Frames.{first_of, PhysicalIs, PhysicalHeld}
+use Rattle.definitions.specs.Calls.Base.{table_fits}
+use Rattle.node_table.specs.declared.NodeRecord.{NodeRecord as Lent}
+use Rattle.node_table.specs.Records.{nodes_of}
+use Rattle.filter_tree.specs.Trees.{Recorded}
+use Rattle.std.proofs.Common.{inl, inr}
 use Rattle.std.specs.Prelude.{Result, Ok, Err}
 use Rattle.std.specs.Prelude as std
 use Rattle.terms.specs.declared.refusals.Refusal.{Refusal}
 use Rattle.terms.specs.declared.refusals.Refusal.TheVariants.{PlanEmpty, NoGoodPlan}
 use Rattle.frame_reader.specs.declared.frame_bodies.Frame as frames
 use Rattle.plan_reader.specs.Predicates.{InRow}
-use Rattle.plan_reader.specs.Plans.{RemainderIs, WholeIs, HeldIs, no_bytes, no_good}
+use Rattle.plan_reader.specs.Plans.{RemainderIs, WholeIs, HeldIs, HeldByTable, no_bytes, no_good}
 use Rattle.plan_reader.specs.declared.extraction_bodies.Extraction as extractions
 use Rattle.plan_reader.specs.declared.extraction_bodies.Held.{Held}
 use Rattle.plan_reader.specs.declared.extraction_bodies.Held.TheVariants as variants
@@ -157,3 +162,44 @@ pub without-claim : (s : List ℕ) (claim : (at i : ℕ) → Expr → Type 0) (r
 without-claim s claim result (Ok (variants.Frame f)) h = (h.0, h.1, h.2, tt)
 without-claim s claim result (Ok (variants.Extraction x)) h = h
 without-claim s claim result (Err why) h = h
+
+-- ---- a plan that is held to a table
+
+none-held : (F : Frame) → ◌≡◌ {A = definitions.Result Plan} (ok empty) (ok (held F)) → ⊥
+none-held F e = cc
+
+-- Bytes that do not begin as a frame hold none.
+frameless : (s : List ℕ) (F : Frame) → (get_or s 0 0 ≡ 1 → ⊥) → plan_of s ≡ ok (held F) → ⊥
+unfolding plan_of plan_of_kind
+frameless [] F other e = none-held F e
+frameless (b ∷ s) F other e = by (extraction_of (b ∷ s)) (sym (extraction-held (b ∷ s) (omega arith) other) ∙ e)
+  where
+    by : (r : definitions.Result Extraction) → map_result extracted r ≡ ok (held F) → ⊥
+    by (ok X) e = cc
+    by (refused number) e = cc
+
+pub none-first : (s : List ℕ) → length s ≡ 0 → get_or s 0 0 ≡ 1 → ⊥
+none-first [] h e = omega (arith, e)
+none-first (b ∷ s) h e = omega (arith, h)
+
+module _ (table : List Lent) (s : List ℕ) where
+  pub no-frame-held : (get_or s 0 0 ≡ 1 → ⊥) → (r : Result Held Refusal) → HeldIs s r (plan_of s) NoClaim
+      → HeldByTable s table r (plan_of s)
+  no-frame-held other (Ok (variants.Frame f)) h = absurd (frameless s h.0 other h.2)
+  no-frame-held other (Ok (variants.Extraction x)) h = h
+  no-frame-held other (Err why) h = inl h
+
+  module _ (first : get_or s 0 0 ≡ 1) where
+    pub frame-held-to : {f : frames.Frame} → PhysicalHeld s table (Ok f) (frame_of s)
+        → HeldByTable s table (Ok (variants.Frame f)) (plan_of s)
+    frame-held-to h = frame-plan s (Recorded table) first h
+
+    -- What is no good frame is no good plan; with the records of a good one the table does not begin.
+    pub no-frame-held-to : (why : Refusal) → PhysicalHeld s table (Err why) (frame_of s) → HeldByTable s table (Err NoGoodPlan) (plan_of s)
+    unfolding table_fits
+    no-frame-held-to why (inl bad) = inl (no-frame s NoClaim first why bad)
+    no-frame-held-to why (inr others) = by (frame_of s) refl
+      where
+        by : (r : definitions.Result Frame) → frame_of s ≡ r → HeldByTable s table (Err NoGoodPlan) (plan_of s)
+        by (ok F) e = inr (refl, ap (table_fits (nodes_of table)) (frame-held s first ∙ ap (map_result held) e) ∙ others F e)
+        by (refused number) e = inl (no_good number (frame-held s first ∙ ap (map_result held) e))

@@ -1,5 +1,5 @@
 -- What the answers about held plans say.
-use Rattle.std.specs.Prelude.{ℕ, ◌+◌, ◌≤◌, ◌≡◌, List, length, take, drop, Option, Some, None, Result, Ok, Err}
+use Rattle.std.specs.Prelude.{ℕ, ◌+◌, ◌≤◌, ◌≡◌, ◌⊎◌, false, List, length, take, drop, Option, Some, None, Result, Ok, Err}
 use Rattle.std.proofs.Math.Option as optional
 use Rattle.definitions.specs.Words.Basics as basics
 use Rattle.definitions.specs.Words.Basics.{ok, refused}
@@ -7,6 +7,10 @@ use Rattle.definitions.specs.Words.Expression as tree
 use Rattle.definitions.specs.Bytes.Readers.{read, stopped, Reader}
 use Rattle.definitions.specs.Bytes.Encode.{predicate_fields}
 use Rattle.definitions.specs.Bytes.Plans.{plan_of}
+use Rattle.definitions.specs.Calls.Base.{table_fits}
+use Rattle.node_table.specs.declared.NodeRecord.{NodeRecord as Lent}
+use Rattle.node_table.specs.Records.{nodes_of}
+use Rattle.filter_tree.specs.Trees.{Recorded}
 use Rattle.terms.specs.Refusals.{number_of}
 use Rattle.terms.specs.declared.refusals.Refusal.{Refusal}
 use Rattle.terms.specs.declared.refusals.Refusal.TheVariants.{NoGoodPlan, PlanEmpty}
@@ -65,6 +69,11 @@ HeldIs s (Ok (held.Extraction x)) result claim =
     (X : tree.Extraction) × ExtractionAt s x (length s) X × (result ≡ ok (tree.extracted X))
     × InRow x.predicate (3 + length (predicate_fields X.predicate))
 HeldIs s (Err why) result claim = NotHeld result why
+
+-- A held plan where a frame's records are a table's first; one with whose records the table does not begin is no good plan.
+abbrev pub HeldByTable : List ℕ → List Lent → Result Held Refusal → basics.Result tree.Plan → Type 0
+HeldByTable s table (Ok held) result = HeldIs s (Ok held) result (Recorded table)
+HeldByTable s table (Err why) result = NotHeld result why ⊎ ((why ≡ NoGoodPlan) × (table_fits (nodes_of table) result ≡ false))
 
 -- The plan's first n bytes are a good frame, which stands there.
 pub record HoldsFrame (n : ℕ) (plan : List ℕ) (f : Frame) : Type 0 where

@@ -5,12 +5,12 @@ ghost use Rattle.definitions.specs.Bytes.Plans as plans;
 ghost use Rattle.filter_tree.specs.Trees.{Recorded};
 ghost use Rattle.frame_reader.specs.Frames.{Roomy};
 ghost use Rattle.node_reader.specs.Places.{NoClaim};
-ghost use Rattle.plan_reader.specs.Plans.{WholeIs, HeldIs};
+ghost use Rattle.plan_reader.specs.Plans.{WholeIs, HeldIs, HeldByTable};
 
 use super::extraction_bodies::{Extraction, Held, extraction_body};
 use filter_tree::lengths::{MIDDLE_BYTES, MIDDLE_NODES, MOST_NODES, SHORT_BYTES, SHORT_NODES};
 use frame_reader::frame_bodies::first_byte;
-use frame_reader::frames::physical_frame_in;
+use frame_reader::frames::{physical_frame_held, physical_frame_in};
 use node_table::{NO_RECORD, NodeRecord};
 use terms::refusals::Refusal;
 
@@ -74,5 +74,18 @@ pub fn held_plan(s: &[u8]) -> Result<Held, Refusal>
         held_plan_by::<MIDDLE_NODES>(s)
     } else {
         held_plan_by::<MOST_NODES>(s)
+    }
+}
+
+// The same where the nodes of a frame are the table's first; one that has others is no good plan.
+pub fn held_plan_by_table(table: &[NodeRecord], s: &[u8]) -> Result<Held, Refusal>
+    ensures { HeldByTable s.now table.now result (plans.plan_of s.now) }
+{
+    if s.is_empty() || s[0] != 1 {
+        return held_plan(s);
+    }
+    match physical_frame_held(table, s) {
+        Ok(frame) => Ok(Held::Frame(frame)),
+        Err(_) => Err(Refusal::NoGoodPlan),
     }
 }

@@ -1,5 +1,7 @@
 -- 24 where the settings are not good; a plan buffer shorter than n holds nothing; else the rows are as long as n asks for.
-use Rattle.call_extract.proofs.Settling.{by-24, long-by, by-settled}
+use Rattle.node_table.specs.Records.{nodes_of}
+use Rattle.call_answers.proofs.Settling.{lent-settled}
+use Rattle.call_extract.proofs.Settling.{by-24, long-by}
 use Rattle.call_extract.proofs.call.extract_settled.Goals as goal
 
 pub returns-in-Err : goal.returns-in-Err
@@ -11,16 +13,10 @@ pub returns-then-plan-n : goal.returns-then-plan-n
 returns-then-plan-n c =
     let a = c.args in
     rw (c.refused-then-plan-n.ensures, ← c.in-Ok.ensures)
-    (by-settled _ _ _ _ c.in-Ok.checked.good a.table _ _ _ (long-by _ a.n a.plan.now a.scratch.now c.if-plan-n.true a.table))
+    (long-by _ a.n a.plan.now a.scratch.now c.in-Ok.checked.good c.if-plan-n.true a.table)
 
-pub returns-then-n-le-SHORT_BYTES : goal.returns-then-n-le-SHORT_BYTES
-returns-then-n-le-SHORT_BYTES c =
-    rw (← c.in-Ok.ensures) (by-settled _ _ _ _ c.in-Ok.checked.good c.args.table _ _ _ c.extract_held.ensures)
-
-pub returns-then-n-le-MIDDLE_BYTES : goal.returns-then-n-le-MIDDLE_BYTES
-returns-then-n-le-MIDDLE_BYTES c =
-    rw (← c.in-Ok.ensures) (by-settled _ _ _ _ c.in-Ok.checked.good c.args.table _ _ _ c.extract_held-then-n-le-MIDDLE_BYTES.ensures)
-
-pub returns-else-n-le-MIDDLE_BYTES : goal.returns-else-n-le-MIDDLE_BYTES
-returns-else-n-le-MIDDLE_BYTES c =
-    rw (← c.in-Ok.ensures) (by-settled _ _ _ _ c.in-Ok.checked.good c.args.table _ _ _ c.extract_held-else-n-le-MIDDLE_BYTES.ensures)
+pub returns-in-Some : goal.returns-in-Some
+returns-in-Some c =
+    let a = c.args in
+    rw (← c.in-Ok.ensures, c.in-Some.is)
+    (lent-settled _ a.n a.plan.now a.scratch.now (nodes_of c.in-Some.table.now) c.in-Ok.checked.good c.extract_lent.ensures)

@@ -1,5 +1,4 @@
 -- What the row holds is not said.
-use Rattle.filter_tree.specs.Trees.{Recorded}
 use Rattle.plan_reader.proofs.Extractions.{without-claim}
 use Rattle.plan_reader.proofs.held_plans.held_plan_by.Goals as goal
 
