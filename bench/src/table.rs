@@ -496,20 +496,20 @@ fn yes(reached: bool) -> &'static str {
 /// How many times as long as plain C ours may take: in the median of a call's groups, if there is a goal for
 /// that, and on the worst of them.
 const C_GOALS: [(&str, Option<f64>, f64); 14] = [
-    ("Load", Some(1.3), 1.6),
-    ("Load and extract", Some(1.35), 1.6),
-    ("Extract, a frame held", Some(1.45), 1.65),
-    ("Exchange, a frame held", Some(1.45), 1.8),
+    ("Load", Some(1.3), 1.9),
+    ("Load and extract", Some(1.35), 1.9),
+    ("Extract, a frame held", Some(1.4), 1.9),
+    ("Exchange, a frame held", Some(1.4), 2.0),
     ("Exchange, an extraction held", Some(1.4), 2.0),
-    ("Logical", Some(1.65), 2.0),
+    ("Logical", Some(1.5), 2.0),
     ("Print", Some(1.3), 1.55),
-    ("Merge, a frame held", Some(1.45), 1.85),
-    ("Project by lists of the plan's own columns", Some(1.5), 2.0),
+    ("Merge, a frame held", Some(1.4), 1.8),
+    ("Project by lists of the plan's own columns", Some(1.5), 1.8),
     ("Project by lists of 4,096 columns", Some(1.0), 1.4),
     ("Put, the last of these frames", None, 1.6),
     ("Serve, the first of these frames", None, 1.6),
-    ("All conjuncts", None, 1.6),
-    ("Explain", None, 1.6),
+    ("All conjuncts", Some(1.6), 1.9),
+    ("Explain", Some(1.5), 2.0),
 ];
 
 /// Ours over plain C, call by call, and the original over ours.
