@@ -3,20 +3,21 @@ ghost use Rattle.std.specs.Prelude.{◌≡◌};
 ghost use Rattle.call_merge.specs.Together.{Counts, over_together};
 
 use super::given::Frames;
+use filter_tree::lengths::{MOST_BYTES, MOST_LEVELS, MOST_NODES, MOST_RECORDS};
 
 // Whether frames of n and m bytes are over a limit once merged: one byte shorter than both, one node more.
 pub fn over_limits(n: usize, m: usize, parts: Frames) -> bool
     requires { Counts n m parts.old parts.new }
     ensures { result ≡ over_together n m parts }
 {
-    if 16385 < n + m {
+    if MOST_BYTES + 1 < n + m {
         return true;
     }
-    if 1024 < parts.old.nodes + parts.new.nodes + 1 {
+    if MOST_NODES < parts.old.nodes + parts.new.nodes + 1 {
         return true;
     }
-    if 64 < parts.depth {
+    if MOST_LEVELS < parts.depth {
         return true;
     }
-    256 < parts.old.columns + parts.new.columns
+    MOST_RECORDS < parts.old.columns + parts.new.columns
 }

@@ -25,7 +25,11 @@ pub const MANY_NODES: usize = 704;
 
 pub const MANY_BYTES: usize = 2112;
 
-// Enough for any frame.
+// What a frame has at the most.
 pub const MOST_NODES: usize = 1024;
 
 pub const MOST_BYTES: usize = 16384;
+
+pub const MOST_RECORDS: usize = 256;
+
+pub const MOST_LEVELS: usize = 64;

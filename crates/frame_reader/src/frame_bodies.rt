@@ -7,6 +7,7 @@ ghost use Rattle.filter_tree.specs.Trees.{RecordedIfRoom};
 ghost use Rattle.frame_reader.specs.Frames.{HeadIs, BodyIs, BodyHeld, first_of, opening};
 
 use super::column_records::{record_count, records};
+use filter_tree::lengths::MOST_BYTES;
 use filter_tree::tree::Tree;
 use node_reader::call_heads::Columns;
 use node_reader::expressions::{fill_expression, held_expression};
@@ -114,7 +115,7 @@ pub fn held_body(table: &[NodeRecord], s: &[u8], at: usize) -> Result<Counted<Fr
 pub fn first_byte(s: &[u8]) -> Result<(u64, usize), Refusal>
     ensures { FieldIs s.now 0 result first_of }
 {
-    if s.is_empty() || 16384 < s.len() {
+    if s.is_empty() || MOST_BYTES < s.len() {
         return Err(Refusal::EmptyOrTooLong);
     }
     byte(s, 0)

@@ -11,6 +11,7 @@ use super::call_heads::{Columns, Source};
 use super::visitors::{Check, Fill, Nothing};
 use super::visits::Visit;
 use super::walk::{Walked, children};
+use filter_tree::lengths::MOST_LEVELS;
 use node_table::NodeRecord;
 use terms::refusals::Refusal;
 
@@ -29,7 +30,7 @@ fn only_child<V: Visit, const COLUMN: u8>(
     ensures counted { Counted count 1 result }
 {
     let mut reached = Walked { next: at, count };
-    children::<V, COLUMN>(v, source, &mut reached, 1, 64)?;
+    children::<V, COLUMN>(v, source, &mut reached, 1, MOST_LEVELS)?;
     Ok(reached)
 }
 

@@ -8,4 +8,4 @@ returns-then-is_empty c =
 
 pub returns : goal.returns
 returns c =
-    length-passes _ c.is_empty.ensures c.if-is_empty.false c.if-s-gt16384.false c.byte.result c.byte.ensures
+    length-passes _ c.is_empty.ensures c.if-is_empty.false c.if-s-gt-MOST_BYTES.false c.byte.result c.byte.ensures
