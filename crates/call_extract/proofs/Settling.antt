@@ -26,7 +26,8 @@ use Rattle.call_extract.specs.Settled.{filled_under, walk_under, SettledBy}
 use Rattle.call_extract.proofs.Tables.{unheld, over-long}
 
 -- Where neither a frame nor an extraction is held.
-pub not-extracted : (match : Matcher) (n : ℕ) (plan scratch : List ℕ) → n ≤ length plan → {why : Refusal} → NotHeld (plan_of (take n plan)) why
+pub not-extracted : (match : Matcher) (n : ℕ) (plan scratch : List ℕ) → n ≤ length plan → {why : Refusal}
+    → NotHeld (plan_of (take n plan)) why
     → ExtractIs (extract_filled_by match n plan scratch) (walk_filled_by match n plan scratch) n plan scratch (unwalked why)
 not-extracted match n plan scratch fits (no_bytes e) = empty-refused match n plan scratch fits e
 not-extracted match n plan scratch fits (no_good number e) = bad-refused match n plan scratch fits number e

@@ -35,7 +35,8 @@ unfolding row_from exprs_bytes
 row-later at nil [] h = tt
 row-later at nil (r ∷ rest) h = omega (arith, h)
 row-later at (cons t ts) rest h =
-    subst (λ (l : List NodeRecord). Later at ((l ++ row_from (at + length (expr_bytes t)) ts) ++ rest)) (sym (nodes-split at t)) (starts at t)
+    subst (λ (l : List NodeRecord). Later at ((l ++ row_from (at + length (expr_bytes t)) ts) ++ rest)) (sym (nodes-split at t))
+    (starts at t)
 
 module _ {xs : List Lent} {at i : ℕ} {t : Expr} {ts : Exprs} (h : NodedAll xs at i (cons t ts)) where
   row-is : drop i (nodes_of xs) ≡ nodes_from at t ++ (row_from (at + length (expr_bytes t)) ts ++ h.rest)

@@ -150,7 +150,14 @@ module _ {xs : List Lent} {at i : ℕ} {t : Expr} where
       passed nil all ends deepest counted = (omega (arith, deepest), omega (arith, counted))
       passed (cons u us) all ends deepest counted =
           let first = noded-first all in
-          absurd (omega (arith, none (noded-within first), noded-start first, some_bytes u, ends, length-append (expr_bytes u) (exprs_bytes us)))
+          absurd (omega (
+            arith,
+            none (noded-within first),
+            noded-start first,
+            some_bytes u,
+            ends,
+            length-append (expr_bytes u) (exprs_bytes us),
+          ))
 
       pub deepening-ends : (levels + 1 ≡ depth t) × (k ≡ i + nodes t)
       deepening-ends = passed d.left d.noded d.ends d.deepest d.counted

@@ -56,7 +56,8 @@ module _ (c : Columns) (s : List ℕ) where
   unfolding record_of
   node t unlike lower at h =
       let p : ℕ = at + length (head_bytes t) in
-      moved (ap (places_of 5) (nodes-split at t) ∙ other-more 5 (record_of at t) (row_from p (children_of t)) (λ e. unlike (kind-byte t ∙ e)))
+      moved (ap (places_of 5) (nodes-split at t) ∙ other-more 5 (record_of at t) (row_from p (children_of t))
+      (λ e. unlike (kind-byte t ∙ e)))
       (bits_below t unlike) (lower p (count (children_of t)) (children-stand h p (count (children_of t)) refl refl))
 
   of-field : (b g : ℕ) → Law (field b g)

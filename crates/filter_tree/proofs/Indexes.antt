@@ -41,7 +41,8 @@ module _ {c : Columns} {s : List ℕ} {nodes : List Lent} where
   }
 
   -- Two in a row, and the rest of it.
-  module _ {at n i : ℕ} {a b : Expr} {more : Exprs} (row : Row c s at n (cons a (cons b more))) (h : NodedAll nodes at i (cons a (cons b more))) where
+  module _ {at n i : ℕ} {a b : Expr} {more : Exprs} (row : Row c s at n (cons a (cons b more)))
+      (h : NodedAll nodes at i (cons a (cons b more))) where
     pub index-first : Indexed c s nodes i a
     index-first = record { at = at; stands = first-stands row; noded = noded-first h }
 
@@ -69,7 +70,8 @@ index-children h = (children-stand h.stands _ _ refl refl, noded-children h.node
 
 module _ {c : Columns} {s : List ℕ} {nodes : List Lent} {at i : ℕ} {t : Expr} (h : Noded nodes at i t) where
   -- Both of an operator that was found.
-  pub both-noded : {build : Expr → Expr → Expr} {first : ℕ} (b : Both build c s at first t) → NodedAll nodes first (i + 1) (cons b.l (cons b.r nil))
+  pub both-noded : {build : Expr → Expr → Expr} {first : ℕ} (b : Both build c s at first t)
+      → NodedAll nodes first (i + 1) (cons b.l (cons b.r nil))
   both-noded {first = first} b = subst (NodedAll nodes first (i + 1)) b.children (noded-children h first (i + 1) b.begins refl)
 
   -- The arguments of a function that was found.

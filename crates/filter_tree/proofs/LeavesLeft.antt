@@ -19,7 +19,8 @@ pub record LeavesLeft (c : Columns) (s : List ℕ) (nodes : List Lent) (left : L
   pub leaves : seen ++ leaves_among all ≡ leaves whole
 
 -- The first of them, and what is then left.
-pub record FirstLeft (c : Columns) (s : List ℕ) (nodes : List Lent) (index : ℕ) (more : List ℕ) (seen : List Expr) (whole : Expr) : Type 0 where
+pub record FirstLeft (c : Columns) (s : List ℕ) (nodes : List Lent) (index : ℕ) (more : List ℕ) (seen : List Expr)
+    (whole : Expr) : Type 0 where
   pub at : ℕ
   pub tree : Expr
   pub reached : Reached c s nodes (record { index = index; at = at; tree = tree })

@@ -80,7 +80,8 @@ one-less l more a p e = (
   omega (arith, ap length e, length-drop p l),
 )
 
-pub among-inner : (x : Reach) (all : List Reach) {l : List Expr} → is_leaf x.tree ≡ false → leaves_among (x ∷ all) ≡ l → leaves_among all ≡ l
+pub among-inner : (x : Reach) (all : List Reach) {l : List Expr} → is_leaf x.tree ≡ false → leaves_among (x ∷ all) ≡ l
+    → leaves_among all ≡ l
 unfolding leaves_among
 among-inner x all k e = rw k at e
 
@@ -154,6 +155,7 @@ single-is-leaf (call name ts) e = refl
 single-is-leaf (other g ts) e = refl
 single-is-leaf (field b g) e = refl
 
-pub found-leaf : {c : Columns} {s : List ℕ} {at : ℕ} {t : Expr} (node : Node) → OfTreeIn s at (λ c t. NodeIs c s at node t) → Stands c s at t
+pub found-leaf : {c : Columns} {s : List ℕ} {at : ℕ} {t : Expr} (node : Node) → OfTreeIn s at (λ c t. NodeIs c s at node t)
+    → Stands c s at t
     → ((first : ℕ) → node ≡ And first → ⊥) → is_leaf t ≡ true
 found-leaf {t = t} node is stands never = single-is-leaf t (single-leaf node is stands never)

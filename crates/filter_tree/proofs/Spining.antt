@@ -223,7 +223,8 @@ unfolding leaves_among
 leaf-both P p [] y f g = subst (λ (k : ℕ). EachLeaf P k y) (omega arith) g
 leaf-both P p (a ∷ x) y f g = (f.0, go (λ k. leaf-both P k x y) (is_leaf a.tree) f.1 g)
   where
-    go : ((k : ℕ) → EachLeaf P k x → EachLeaf P (k + length (leaves_among x)) y → EachLeaf P k (x ++ y)) → (b : Bool) → EachLeaf P (if b then suc p else p) x
+    go : ((k : ℕ) → EachLeaf P k x → EachLeaf P (k + length (leaves_among x)) y → EachLeaf P k (x ++ y)) → (b : Bool)
+        → EachLeaf P (if b then suc p else p) x
         → EachLeaf P (p + length (if b then a.tree ∷ leaves_among x else leaves_among x)) y
         → EachLeaf P (if b then suc p else p) (x ++ y)
     go further true f g = further (suc p) f (subst (λ (k : ℕ). EachLeaf P k y) (omega arith) g)
@@ -234,7 +235,8 @@ leaf-moved : (P Q : (position index : ℕ) → Type 0) (d : ℕ) → ((p k : ℕ
 leaf-moved P Q d move p [] f = tt
 leaf-moved P Q d move p (a ∷ x) f = (λ e. move p a.index (f.0 e), go (λ k. leaf-moved P Q d move k x) (is_leaf a.tree) f.1)
   where
-    go : ((k : ℕ) → EachLeaf P k x → EachLeaf Q (d + k) x) → (b : Bool) → EachLeaf P (if b then suc p else p) x → EachLeaf Q (if b then suc (d + p) else (d + p)) x
+    go : ((k : ℕ) → EachLeaf P k x → EachLeaf Q (d + k) x) → (b : Bool) → EachLeaf P (if b then suc p else p) x
+        → EachLeaf Q (if b then suc (d + p) else (d + p)) x
     go further true f = subst (λ (k : ℕ). EachLeaf Q k x) (omega arith) (further (suc p) f)
     go further false f = further p f
 
@@ -246,7 +248,8 @@ leaf-spots at i (and l r) =
     let x : List Reach = reached_nodes (at + 2) (i + 1) l in
     let y : List Reach = reached_nodes (at + 2 + length (expr_bytes l)) (i + 1 + nodes l) r in
     let on_left : EachLeaf (LeafThere (and l r) i) 0 x =
-    leaf-moved (LeafThere l (i + 1)) (LeafThere (and l r) i) 0 (λ p k f up. ((f i).0, subst (λ (q : ℕ). LeafIndex k (f i).0 up (and l r) i q) (omega arith) (in_left (f i).1))) 0 x
+    leaf-moved (LeafThere l (i + 1)) (LeafThere (and l r) i) 0
+    (λ p k f up. ((f i).0, subst (λ (q : ℕ). LeafIndex k (f i).0 up (and l r) i q) (omega arith) (in_left (f i).1))) 0 x
     (leaf-spots (at + 2) (i + 1) l) in
     let on_right : EachLeaf (LeafThere (and l r) i) (length (leaves l) + 0) y =
     leaf-moved (LeafThere r (i + 1 + nodes l)) (LeafThere (and l r) i) (length (leaves l)) (λ p k f up. ((f i).0, in_right (f i).1)) 0 y

@@ -88,7 +88,8 @@ places_of kind (r ∷ more) = if eqb r.kind kind then r.start ∷ places_of kind
 -- above it, `up` that of the And above the expression.
 pub data LeafIndex (leaf above : ℕ) : (up : ℕ) → Expr → (i position : ℕ) → Type 0 where
   here : {up : ℕ} {t : Expr} {i : ℕ} → leaves t ≡ t ∷ [] → leaf ≡ i → above ≡ up → LeafIndex leaf above up t i 0
-  in_left : {up : ℕ} {l r : Expr} {i position : ℕ} → LeafIndex leaf above i l (i + 1) position → LeafIndex leaf above up (and l r) i position
+  in_left : {up : ℕ} {l r : Expr} {i position : ℕ} → LeafIndex leaf above i l (i + 1) position
+      → LeafIndex leaf above up (and l r) i position
   in_right : {up : ℕ} {l r : Expr} {i position : ℕ} → LeafIndex leaf above i r (i + 1 + nodes l) position
       → LeafIndex leaf above up (and l r) i (length (leaves l) + position)
 

@@ -1,5 +1,5 @@
-// The nodes of an expression as their records, in prefix order: a node is its index. What is below it are the records that follow while they
-// start before its end.
+// The nodes of an expression as their records, in prefix order: a node is its index. What is below it are the records that follow
+// while they start before its end.
 ghost use Rattle.std.specs.Iterator.{YieldsFirst, item_count};
 ghost use Rattle.std.specs.Prelude.{◌≡◌, ◌+◌, length};
 ghost use Rattle.definitions.specs.Bytes.Encode.{expr_bytes};

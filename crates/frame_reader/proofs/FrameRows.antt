@@ -43,8 +43,16 @@ read-recorded row filled room same {c} {e = e} at counted few recorded =
 -- So a body whose nodes went into a row is recorded there.
 pub body-recorded : {s : List ℕ} (row filled : List Lent) → Roomy s row → length filled ≡ length row → (at : ℕ) (b : Counted Frame)
     → BodyIs s at 0 (Ok b) frame_body (RecordedIfRoom filled) → BodyIs s at 0 (Ok b) frame_body (Recorded filled)
-body-recorded row filled room same at b (place, F, reads, stands, counted, few, recorded) =
-    (place, F, reads, stands, counted, few, read-recorded row filled room same stands.expr (omega (arith, stands.sized, counted)) few recorded)
+body-recorded row filled room same at b (place, F, reads, stands, counted, few, recorded) = (
+  place,
+  F,
+  reads,
+  stands,
+  counted,
+  few,
+  read-recorded row filled room same stands.expr (omega (arith, stands.sized, counted)) few
+      recorded,
+)
 
 -- The expression of a body that is recorded is a tree of the first records.
 module _ {s : List ℕ} (records : List Lent) (at : ℕ) (b : Counted Frame) (body : BodyIs s at 0 (Ok b) frame_body (Recorded records)) where

@@ -88,5 +88,6 @@ module _ {s : List ℕ} {at : ℕ} {h : FrameHead} (head : HeadAt s at h) where
     held-ends table why (inl stops) = inl (head.reads 0 ∙ halts _ stops)
     held-ends table why (inr others) = inr (λ F n rest e.
         step (expression (index_below h.columns) 0 (drop h.root s)) _ (sym (head.reads 0) ∙ e) (λ x n₁ s₁ e₁ f₁.
-        given (λ G m t. Recorded table (at + 2 + 5 * length G.records) 0 G.expr → ⊥) (record { records = head.rows; expr = x }) F n₁ n s₁ rest f₁
+        given (λ G m t. Recorded table (at + 2 + 5 * length G.records) 0 G.expr → ⊥) (record { records = head.rows; expr = x }) F n₁ n s₁
+        rest f₁
         (λ same. others x n₁ s₁ e₁ (subst (λ (k : ℕ). Recorded table k 0 x) (sym (place x n₁ s₁ e₁)) same))))

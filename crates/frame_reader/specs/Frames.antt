@@ -47,7 +47,8 @@ pub record HeadAt (s : List ℕ) (at : ℕ) (h : FrameHead) : Type 0 where
   pub counted : h.columns ≡ length rows
   pub stands : Between s h.records h.root (records_bytes rows)
   pub reads : (n : ℕ)
-      → frame_body n (drop at s) ≡ (expression (index_below h.columns) >>= λ e. give (record { records = rows; expr = e })) n (drop h.root s)
+      → frame_body n (drop at s) ≡ (expression (index_below h.columns) >>= λ e. give (record { records = rows; expr = e })) n
+      (drop h.root s)
 
 abbrev pub HeadIs : List ℕ → (at : ℕ) → Result FrameHead Refusal → Type 0
 HeadIs s at (Ok h) = HeadAt s at h

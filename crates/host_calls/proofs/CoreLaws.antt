@@ -74,7 +74,8 @@ pub row-left : (frame : List ℕ) (r : Either Loaded Refusal) (row : List Lent) 
 row-left frame r row has left by =
     left-has frame row r left by (λ l e. subst (λ (x : Either Loaded Refusal). LoadedRow frame x row) e has)
 
-pub merged-left : (after : List ℕ) (r : Either Loaded Refusal) (row : List Lent) → MergedRow after r row → (left : HostLoaded) → LeftBy r left
+pub merged-left : (after : List ℕ) (r : Either Loaded Refusal) (row : List Lent) → MergedRow after r row → (left : HostLoaded)
+    → LeftBy r left
     → RowHas after left.root left.count row
 merged-left after r row has left by =
     left-has after row r left by (λ l e. subst (λ (x : Either Loaded Refusal). MergedRow after x row) e has)
@@ -159,7 +160,8 @@ pub load-fills : (frame before after : List ℕ) {held : ℕ} (left : HostLoaded
     → put ≡ take left.count row ++ drop (length (take left.count row)) table
     → LoadHosted frame before after (nodes_of table) (nodes_of put) left.answer
 load-fills frame before after left table size is row put has e =
-    load-done frame before after left (nodes_of table) size (filled-first frame left.root left.count row table put has e) is.0 is.1 is.2 is.3
+    load-done frame before after left (nodes_of table) size (filled-first frame left.root left.count row table put has e) is.0 is.1 is.2
+    is.3
 
 -- A merge likewise; the records stand in the new plan.
 module _ (frame : List ℕ) (n : ℕ) (before scratch after kept : List ℕ) {held : ℕ} (left : HostLoaded)

@@ -108,7 +108,8 @@ module _ {s : List ℕ} {rec : ℕ} {left more : List ℕ} {place : ℕ} {seen g
 -- ---- two arguments in a row
 
 module _ {s : List ℕ} {rec i : ℕ} {nodes : List Lent} where
-  first-of : {records : List Record} {at : ℕ} {x y : Expr} → OverTwo s rec at records x y → Begin nodes at i x y → ArgumentAt s rec nodes i records x
+  first-of : {records : List Record} {at : ℕ} {x y : Expr} → OverTwo s rec at records x y → Begin nodes at i x y
+      → ArgumentAt s rec nodes i records x
   first-of {at = at} over begin = record { at = at; over = over.one; noded = noded-first begin.1 }
 
   pub first-of-two : ArguedTwo s rec nodes i → Argued s rec nodes i

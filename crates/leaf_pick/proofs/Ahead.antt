@@ -46,7 +46,8 @@ pub record Ahead (match : Matcher) (s : List ℕ) (nodes : List Lent) (rec : ℕ
   pub remembers : Remembers s records w.found first
   pub spot : SpotOf t w.found
   pub picks : one_walk (matches match records t) ≡ walk_on (reading position first) (map (match records) (leaves_among all))
-  pub walked : walk_length_by match (record { records = records; expr = t }) ≡ w.read + count_to is_knn_match (matches_among (match records) all)
+  pub walked : walk_length_by match (record { records = records; expr = t }) ≡ w.read
+      + count_to is_knn_match (matches_among (match records) all)
 
 abbrev pub SomeAhead : (match : Matcher) (s : List ℕ) (nodes : List Lent) (rec : ℕ) (left : List ℕ) (position : ℕ) (w : Walk SeenLeaf)
     → List Record → Expr → Type 0
@@ -117,7 +118,8 @@ module _ {match : Matcher} {s : List ℕ} {nodes : List Lent} {rec : ℕ} where
             (map (match records) (if b then n.x.tree ∷ leaves_among n.others else leaves_among n.others))) k;
         walked =
             n.ahead.walked
-            ∙ ap (λ (b : Bool). w.read + count_to is_knn_match ((if b then match records n.x.tree else none) ∷ matches_among (match records) n.others)) k
+            ∙ ap (λ (b : Bool). w.read + count_to is_knn_match
+            ((if b then match records n.x.tree else none) ∷ matches_among (match records) n.others)) k
             ∙ omega arith;
       }
 
@@ -133,11 +135,13 @@ module _ {match : Matcher} {s : List ℕ} {nodes : List Lent} {rec : ℕ} where
             (map (match records) (if b then n.x.tree ∷ leaves_among n.others else leaves_among n.others))) k
 
         leaf_walked : walk_length_by match (record { records = records; expr = t })
-            ≡ w.read + suc (if is_knn_match (match records n.x.tree) then 0 else count_to is_knn_match (matches_among (match records) n.others))
+            ≡ w.read + suc (if is_knn_match (match records n.x.tree) then 0 else count_to is_knn_match
+            (matches_among (match records) n.others))
         unfolding matches_among count_to
         leaf_walked =
             n.ahead.walked
-            ∙ ap (λ (b : Bool). w.read + count_to is_knn_match ((if b then match records n.x.tree else none) ∷ matches_among (match records) n.others)) k
+            ∙ ap (λ (b : Bool). w.read + count_to is_knn_match
+            ((if b then match records n.x.tree else none) ∷ matches_among (match records) n.others)) k
 
         kept-spot : {before after : Memory} → Kept index position before after → SpotOf t before → SpotOf t after
         kept-spot same spot = spot
@@ -203,7 +207,8 @@ module _ {match : Matcher} {s : List ℕ} {nodes : List Lent} {rec : ℕ} where
 -- ---- of every frame that stands there
 
 -- What the loop keeps.
-pub record Along (match : Matcher) (s : List ℕ) (nodes : List Lent) (rec : ℕ) (left : List ℕ) (position : ℕ) (w : Walk SeenLeaf) : Type 0 where
+pub record Along (match : Matcher) (s : List ℕ) (nodes : List Lent) (rec : ℕ) (left : List ℕ) (position : ℕ)
+    (w : Walk SeenLeaf) : Type 0 where
   pub ahead : OfArgument s rec nodes 0 (SomeAhead match s nodes rec left position w)
   pub few : w.read + length left ≤ length nodes
   pub fewer : position ≤ w.read
@@ -249,7 +254,8 @@ module _ {match : Matcher} {s : List ℕ} {nodes : List Lent} {rec : ℕ} where
               (subst (λ (p : ℕ). Noded nodes p index n.x.tree) (sym (start _ _ (now-noded n))) (now-noded n))
 
       module _ {at : ℕ} (start : OfNode nodes index (λ p t. at ≡ p)) where
-        placed : {records : List Record} {t : Expr} (n : Now match s nodes rec index left more position w records t) → Over s rec at records n.x.tree
+        placed : {records : List Record} {t : Expr} (n : Now match s nodes rec index left more position w records t)
+            → Over s rec at records n.x.tree
         placed {records} n = subst (λ (p : ℕ). Over s rec p records n.x.tree) (sym (start _ _ (now-noded n))) (now-over n)
 
         module _ {found : Found} (told : OfTreeIn s at (λ c t. NodeIs c s at found t)) where
@@ -268,7 +274,8 @@ module _ {match : Matcher} {s : List ℕ} {nodes : List Lent} {rec : ℕ} where
           -- ---- a leaf
 
           module _ (never : (first : ℕ) → found ≡ node.And first → ⊥) where
-            its-leaf : {records : List Record} {t : Expr} (n : Now match s nodes rec index left more position w records t) → is_leaf n.x.tree ≡ true
+            its-leaf : {records : List Record} {t : Expr} (n : Now match s nodes rec index left more position w records t)
+                → is_leaf n.x.tree ≡ true
             its-leaf n = found-leaf found told (placed n).tree never
 
             pub along-stopped : {seen : SeenLeaf}

@@ -241,7 +241,8 @@ module _ {match : Matcher} {wanted : Wanted} {s : List ℕ} {nodes : List Lent} 
           pub along-less : length s - right < length s - stop.at
           along-less = omega (arith, after-left.1, node-some inv.there.2.tree)
 
-          pub along-right : (k : ℕ) → OfNode nodes (stop.index + 1) (λ at t. k ≡ stop.index + 1 + nodes_in t) → Along match wanted s nodes rec from parent
+          pub along-right : (k : ℕ) → OfNode nodes (stop.index + 1) (λ at t. k ≡ stop.index + 1 + nodes_in t)
+              → Along match wanted s nodes rec from parent
               (record { at = right; index = k; position = counted }) stop.at
           along-right k after =
               let b = its-both in

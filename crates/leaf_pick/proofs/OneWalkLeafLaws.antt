@@ -71,7 +71,8 @@ module _ {match : Matcher} {s : List ℕ} (leaf : Leaf) {records : List Record} 
     seen_here = here-seen leaf predicate;
   }
 
-  pub leaf_first : Matches is_other s records predicate (match records t) → (first : Option definition.Pick) → Remembers s records None first
+  pub leaf_first : Matches is_other s records predicate (match records t) → (first : Option definition.Pick)
+      → Remembers s records None first
       → GoingIs match s leaf.stop.index leaf.stop.position first None (Some (seen_here leaf predicate)) records t
   unfolding read_leaf is_knn_match first_of
   leaf_first m first e =

@@ -1,4 +1,5 @@
--- Expressions that stand in the bytes of a frame, over the records of their columns, and whose nodes' records are in its table from an index on.
+-- Expressions that stand in the bytes of a frame, over the records of their columns, and whose nodes' records are in its table from an
+-- index on.
 use Rattle.std.specs.Prelude.{ℕ, List}
 use Rattle.definitions.specs.Words.Expression.{Expr, Exprs, nil, cons, Record}
 use Rattle.filter_tree.specs.Trees.{Noded, NodedAll}

@@ -59,7 +59,8 @@ pub collecting-begins : {c : Columns} {s : List ℕ} {nodes : List Lent} {i : �
 unfolding mask spatial_names any first_knn
 collecting-begins {c} is = record { columns = c; seen = []; to_come = left-begins is; names = refl; knn = refl }
 
-module _ {s : List ℕ} {nodes : List Lent} {left : List ℕ} {whole : Expr} {now : CollectedNames} (inv : Collecting s nodes left now whole) where
+module _ {s : List ℕ} {nodes : List Lent} {left : List ℕ} {whole : Expr} {now : CollectedNames}
+    (inv : Collecting s nodes left now whole) where
   module _ {index : ℕ} {more : List ℕ} (is : left ≡ index ∷ more) where
     pub collecting-there : TreeNode s nodes index
     collecting-there =

@@ -37,7 +37,8 @@ module _ (s : List ℕ) (at : ℕ) (child : Reader Expr) (n : ℕ) where
           ≡ continue (repeat size (byte_between 33 126) n (drop (at + 2) s))
           (λ name. byte_up_to 16 >>= λ arguments. repeat_exprs arguments child >>= λ es. give (call name es))
       unfolding call_node
-      rest = after _ (between-read s (at + 1) n 1 32 (at + 2) (omega arith) there (omega arith) (omega arith) ∙ ap (λ (k : ℕ). read k n (drop (at + 2) s)) (sym is))
+      rest = after _ (between-read s (at + 1) n 1 32 (at + 2) (omega arith) there (omega arith) (omega arith)
+          ∙ ap (λ (k : ℕ). read k n (drop (at + 2) s)) (sym is))
 
       pub name-bad-stops : name_like (take size (drop (at + 2) s)) ≡ false → call_node child n (drop (at + 1) s) ≡ stopped 4
       name-bad-stops bad = rest ∙ halts _ (name-bad s (at + 2) size n bad)

@@ -102,7 +102,10 @@ only-zero bound kind other none = lt-leb kind 4 (omega (arith, other.0, other.1,
 pub only-five : (kind : ℕ) → OtherKind kind → (kind ≡ 5 → ⊥) → allowed_kind fields kind ≡ false
 unfolding allowed_kind
 only-five zero other none = refl
-only-five (suc kind) other none = rw (le-leb 1 (suc kind) (omega arith), lt-leb (suc kind) 5 (omega (arith, other.0, other.1, other.2, other.3, none)))
+only-five (suc kind) other none = rw (
+  le-leb 1 (suc kind) (omega arith),
+  lt-leb (suc kind) 5 (omega (arith, other.0, other.1, other.2, other.3, none)),
+)
 
 -- The columns of a walk, by the two kinds.
 pub physical : (kind bound : ℕ) → kind ≡ 0 → columns_in kind bound ≡ index_below bound

@@ -148,5 +148,6 @@ module _ (s : List ℕ) (at size n : ℕ) where
   pub name-bad : name_like (take size (drop at s)) ≡ false → repeat size (byte_between 33 126) n (drop at s) ≡ stopped 4
   name-bad e = names-stop size size n (drop at s) (omega arith) e
 
-  pub name-cut : at ≤ length s → length s < at + size → name_like (drop at s) ≡ true → repeat size (byte_between 33 126) n (drop at s) ≡ stopped 3
+  pub name-cut : at ≤ length s → length s < at + size → name_like (drop at s) ≡ true
+      → repeat size (byte_between 33 126) n (drop at s) ≡ stopped 3
   name-cut w h e = names-end size n (drop at s) (simp length-drop (omega arith)) e

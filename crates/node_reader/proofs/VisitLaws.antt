@@ -50,7 +50,8 @@ nothing-put : (i : ℕ) (before : List Lent) → PutFrom i [] before before
 nothing-put i before = sym (take-append-drop i before) ∙ ap (λ (k : ℕ). take i before ++ drop k before) (sym (add-zero i))
 
 -- x from a on, then y after it.
-both-put : (a : ℕ) (x y before middle after : List Lent) → a ≤ length before → PutFrom a x before middle → PutFrom (a + length x) y middle after
+both-put : (a : ℕ) (x y before middle after : List Lent) → a ≤ length before → PutFrom a x before middle
+    → PutFrom (a + length x) y middle after
     → PutFrom a (x ++ y) before after
 both-put a x y before middle after room one two =
     let rest : List Lent = drop (a + length x) before in
@@ -58,7 +59,8 @@ both-put a x y before middle after room one two =
     let size : length (take a before ++ x) ≡ a + length x = simp length-append (omega (arith, length-take-le a before room)) in
     let front : take (a + length x) middle ≡ take a before ++ x =
     ap (take (a + length x)) written ∙ take_at (take a before ++ x) rest (a + length x) size in
-    let behind : drop (a + length x) middle ≡ rest = ap (drop (a + length x)) written ∙ drop_at (take a before ++ x) rest (a + length x) size in
+    let behind : drop (a + length x) middle ≡ rest = ap (drop (a + length x)) written
+    ∙ drop_at (take a before ++ x) rest (a + length x) size in
     let both : a + length x + length y ≡ a + length (x ++ y) = simp length-append (omega arith) in
     let kept : drop (a + length x + length y) middle ≡ drop (a + length (x ++ y)) before =
     sym (drop-drop (length y) (a + length x) middle) ∙ ap (drop (length y)) behind ∙ drop-drop (length y) (a + length x) before
@@ -73,7 +75,8 @@ closed-over : (i : ℕ) (x : Lent) (ys a b c d : List Lent) (end : ℕ) → i < 
 closed-over i x ys a b c d end room opened inside closed =
     let rest : List Lent = ys ++ drop (i + 1 + length ys) a in
     let size : i + 1 + length ys ≡ i + length (record x { end = end } ∷ ys) = omega arith in
-    let front : take (i + 1) b ≡ take i a ++ (x ∷ []) = ap (take (i + 1)) opened ∙ ap (λ (k : ℕ). take k (set a i x)) (add-one i) ∙ take-suc-set a i x room in
+    let front : take (i + 1) b ≡ take i a ++ (x ∷ []) = ap (take (i + 1)) opened ∙ ap (λ (k : ℕ). take k (set a i x)) (add-one i)
+    ∙ take-suc-set a i x room in
     let behind : drop (i + 1 + length ys) b ≡ drop (i + 1 + length ys) a =
     ap (drop (i + 1 + length ys)) opened ∙ drop-set-lt (i + 1 + length ys) a i x (omega arith) in
     let whole : c ≡ take i a ++ (x ∷ rest) =
@@ -105,7 +108,8 @@ node-filled at i t v u w x opened inside closed =
       same = closed.1.0 ∙ inside.same ∙ opened.1.0;
       put = λ fits.
           subst (λ (l : List NodeRecord). PutFrom i (map struct_of l) v.row.now x.row.now) (sym split)
-          (closed-over i (record (get_or v.row.now i blank) { kind = kind_byte t; start = at }) (map struct_of cs) v.row.now u.row.now w.row.now x.row.now
+          (closed-over i (record (get_or v.row.now i blank) { kind = kind_byte t; start = at }) (map struct_of cs) v.row.now u.row.now
+          w.row.now x.row.now
           (at + length (expr_bytes t)) (omega (arith, size, fits)) (opened.1.1 (omega (arith, size, fits)))
           (inside.put (omega (arith, size, fits, opened.1.0)))
           (closed.1.1 (omega (arith, size, fits, inside.same, opened.1.0))));
@@ -165,7 +169,8 @@ filled s at count levels c (Err why) v w after stays (inl stops) = inl stops
 filled s at count levels c (Err why) v w after stays (inr (some, refuse)) = absurd (willing some)
 
 -- A row into which they were put has them.
-pub put-recorded : (at i end : ℕ) (t : Expr) (row after : List Lent) → RecordsPut at i row after end (i + nodes t) t → RecordedIfRoom after at i t
+pub put-recorded : (at i end : ℕ) (t : Expr) (row after : List Lent) → RecordsPut at i row after end (i + nodes t) t
+    → RecordedIfRoom after at i t
 put-recorded at i end t row after (same, put) room =
     let records : List NodeRecord = nodes_from at t in
     let rest : List Lent = drop (i + nodes t) row in
@@ -332,7 +337,8 @@ row-refused {at} {i} {v = v} (refused_below {t = t} {ts = ts} {u = u} opened bel
 row-refused {at} {i} {v = v} (not_closed {t = t} {ts = ts} {u = u} {x = x} opened inside refusal) h =
     let f = first-parts v.table.now at i t ts h in
     let a = row-checked inside in
-    refusal (subst (λ (l : List Lent). EndsThere l i (at + length (expr_bytes t))) (sym (a.0 ∙ opened.0)) (ends-so v.table.now i at t f.0 f.1))
+    refusal (subst (λ (l : List Lent). EndsThere l i (at + length (expr_bytes t))) (sym (a.0 ∙ opened.0))
+    (ends-so v.table.now i at t f.0 f.1))
 row-refused {at} {i} {v = v} (refused_later {t = t} {ts = ts} {w = w} one later) h =
     let a = row-checked one.3 in
     let same : w.table.now ≡ v.table.now = one.4.0 ∙ a.0 ∙ one.2.0 in

@@ -171,16 +171,22 @@ module _ {V : Type 0} (D : Deeds V) (c : Columns) (s : List ℕ) (at levels coun
   pub opening-fails : {v : V} {kind : ℕ} → kind ≡ get_or s at 0 → D.NotOpen v count kind at → (w : V) (why : Refusal)
       → NodeVisit D s at count (Err why) (node c levels) v w
   opening-fails {v} {kind} e refusal w why =
-      inr (inl (v, count, kind, at, refusal), λ t n rest r ts. not_opened (subst (λ (k : ℕ). D.NotOpen v count k at) (byte-is t (stands t n rest r) e) refusal))
+      inr (
+        inl (v, count, kind, at, refusal),
+        λ t n rest r ts. not_opened
+            (subst (λ (k : ℕ). D.NotOpen v count k at) (byte-is t (stands t n rest r) e) refusal),
+      )
 
   -- Where its children begin.
-  first-child : (es : Exprs) (n : ℕ) (rest : List ℕ) → repeat_exprs head.children (node c (levels - 1)) (count + 1) (drop head.next s) ≡ read es n rest
+  first-child : (es : Exprs) (n : ℕ) (rest : List ℕ) → repeat_exprs head.children (node c (levels - 1)) (count + 1) (drop head.next s)
+      ≡ read es n rest
       → (t : Expr) → children_of t ≡ es → (m : ℕ) → node c levels count (drop at s) ≡ read t m rest → head.next ≡ at + length (head_bytes t)
   first-child es n rest e t same m r =
       let b = node-back c levels count m (drop at s) rest t (bytes-from at s bytes) few r in
       let row : drop head.next s ≡ exprs_bytes es ++ rest = row-bytes c (levels - 1) head.children (count + 1) n (drop head.next s) rest es
       (bytes-from head.next s bytes) (omega (arith, above.5)) e in
-      let whole : length s - at ≡ length (expr_bytes t) + length rest = sym (length-drop at s) ∙ ap length b.bytes ∙ length-append (expr_bytes t) rest in
+      let whole : length s - at ≡ length (expr_bytes t) + length rest = sym (length-drop at s) ∙ ap length b.bytes
+      ∙ length-append (expr_bytes t) rest in
       let part : length s - head.next ≡ length (exprs_bytes es) + length rest =
       sym (length-drop head.next s) ∙ ap length row ∙ length-append (exprs_bytes es) rest in
       let size : length (exprs_bytes (children_of t)) ≡ length (exprs_bytes es) = ap (λ (x : Exprs). length (exprs_bytes x)) same in
@@ -198,7 +204,8 @@ module _ {V : Type 0} (D : Deeds V) (c : Columns) (s : List ℕ) (at levels coun
           λ t n rest r ts. step (repeat_exprs head.children (node c (levels - 1)) (count + 1) (drop head.next s)) _ (sym above.2 ∙ r)
               (λ es n₁ s₁ e₁ f₁.
               let same = same_read (above.1 es) t n₁ n s₁ rest f₁ in
-              let its : children_of t ≡ es = ap children_of (sym same.0) ∙ above.3 es (as-many (node c (levels - 1)) head.children (count + 1) n₁ _ s₁ es e₁) in
+              let its : children_of t ≡ es = ap children_of (sym same.0)
+              ∙ above.3 es (as-many (node c (levels - 1)) head.children (count + 1) n₁ _ s₁ es e₁) in
               let begins : head.next ≡ at + length (head_bytes t) = first-child es n₁ s₁ e₁ t its n (r ∙ ap (read t n) (sym same.2)) in
               refused_below (subst (λ (k : ℕ). D.Open v count k at u) (byte-is t (stands t n rest r) is) opened)
               (subst (λ (p : ℕ). RowRefused D p (count + 1) (children_of t) u) begins
@@ -216,7 +223,8 @@ module _ {V : Type 0} (D : Deeds V) (c : Columns) (s : List ℕ) (at levels coun
 
       its-children : children_of itself ≡ h.1
       unfolding itself
-      its-children = above.3 h.1 (as-many (node c (levels - 1)) head.children (count + 1) walked.count (drop head.next s) (drop walked.next s) h.1 h.2)
+      its-children = above.3 h.1 (as-many (node c (levels - 1)) head.children (count + 1) walked.count (drop head.next s)
+          (drop walked.next s) h.1 h.2)
 
       there : There c s at count walked.next walked.count itself
       there = node-there c s at levels count bytes within few h.0 reads
@@ -314,7 +322,8 @@ module _ {V : Type 0} (D : Deeds V) (s : List ℕ) (at count : ℕ) (child : Rea
       step (child count (drop at s)) _ h.2 (λ x n₁ s₁ e₁ f₁.
       let same : (cons x nil ≡ h.1) × (n₁ ≡ walked.count) × (s₁ ≡ drop walked.next s) =
       same_read (cons x nil) h.1 n₁ walked.count s₁ (drop walked.next s) f₁ in
-      let ends : walked.next ≡ at + length (exprs_bytes (cons x nil)) = h.3.0 ∙ ap (λ (ts : Exprs). at + length (exprs_bytes ts)) (sym same.0) in
+      let ends : walked.next ≡ at + length (exprs_bytes (cons x nil)) = h.3.0
+      ∙ ap (λ (ts : Exprs). at + length (exprs_bytes ts)) (sym same.0) in
       let index : walked.count ≡ count + nodes_all (cons x nil) = h.3.1 ∙ ap (λ (ts : Exprs). count + nodes_all ts) (sym same.0) in (
         h.0,
         x,

@@ -79,7 +79,8 @@ module _ (c : Columns) (s : List ℕ) (at n levels : ℕ) where
     pub too-many : most ≤ n → (why : Refusal) → BeyondIs s at c why → node c levels n (drop at s) ≡ stopped (number_of why)
     too-many many why is =
         ap (node c levels n) split
-        ∙ beyond c n (get_or s at 0) (drop (at + 1) s) levels (omega (arith, limit)) (allowed_kind c (get_or s at 0)) refl ∙ ap stopped (sym is)
+        ∙ beyond c n (get_or s at 0) (drop (at + 1) s) levels (omega (arith, limit)) (allowed_kind c (get_or s at 0)) refl
+        ∙ ap stopped (sym is)
 
     below : n < most → node c levels n (drop at s) ≡ any_kind c (get_or s at 0) (node c (levels - 1)) (n + 1) (drop (at + 1) s)
     below few =

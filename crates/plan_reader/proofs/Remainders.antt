@@ -24,7 +24,8 @@ expr-among : (F : Frame) → length (expr_bytes F.expr) ≤ length (frame_fields
 unfolding frame_fields
 expr-among F = simp length-append (omega arith)
 
-module _ {s : List ℕ} (bytes : AllBytes s) (row filled : List Lent) (room : Roomy s row) (same : length filled ≡ length row) {at before : ℕ} (low : at ≤ length s)
+module _ {s : List ℕ} (bytes : AllBytes s) (row filled : List Lent) (room : Roomy s row) (same : length filled ≡ length row)
+    {at before : ℕ} (low : at ≤ length s)
     (counted : CountedUpTo at before) {b : Counted frames.Frame} (body : BodyIs s at before (Ok b) frame_body (RecordedIfRoom filled)) where
   pub remainder-within : b.count ≤ length filled
   remainder-within =

@@ -63,7 +63,8 @@ module _ {n : ℕ} {s : List ℕ} {nodes : List Lent} {cut : Cut} {at : ℕ} {t 
     omega (arith, column-index i g stands, ltb-true i n stands.in_range.0),
   )) at t h.stands
 
-  pub left-movable : (root place : ℕ) → OfNode nodes 0 (λ at t. root ≡ at) → root ≤ place → outside cut place ≡ true → Movable cut root place
+  pub left-movable : (root place : ℕ) → OfNode nodes 0 (λ at t. root ≡ at) → root ≤ place → outside cut place ≡ true
+      → Movable cut root place
   left-movable root place starts low out =
       let spans = left-spans by-leaf in
       record {

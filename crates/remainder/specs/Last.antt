@@ -16,7 +16,8 @@ abbrev pub last_bytes : (goes : Expr → Bool) → List Record → Expr → List
 last_bytes goes records t = remainder_bytes (map (prune records) (without_all goes t))
 
 -- Records in s and an expression over them whose AND-leaves have these flags.
-pub record Left (s : List ℕ) (rec count : ℕ) (from : List ℕ) (at : ℕ) (gone : List ℕ) (goes : Expr → Bool) (records : List Record) (t : Expr)
+pub record Left (s : List ℕ) (rec count : ℕ) (from : List ℕ) (at : ℕ) (gone : List ℕ) (goes : Expr → Bool) (records : List Record)
+    (t : Expr)
     : Type 0 where
   pub frame : Prunable s rec count from at records t
   pub counted : length (leaves t) ≡ length gone

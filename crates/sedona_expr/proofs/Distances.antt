@@ -117,7 +117,8 @@ module _ (form : ℕ) where
           (λ a b more is same.
           let place : ℕ = sides.stands_measured.at + length (head_bytes sides.m) in
           let both = index-children sides.stands_measured in
-          let noded : NodedAll nodes place (measured + 1) (cons a (cons b more)) = subst (NodedAll nodes place (measured + 1)) same both.1 in
+          let noded : NodedAll nodes place (measured + 1) (cons a (cons b more)) =
+          subst (NodedAll nodes place (measured + 1)) same both.1 in
           let row : Row c s place (count (children_of sides.m)) (cons a (cons b more)) =
           subst (Row c s place (count (children_of sides.m))) same both.0 in
           record {

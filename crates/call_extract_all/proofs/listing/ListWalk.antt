@@ -257,7 +257,8 @@ module _ {match : Matcher} {s : List ℕ} {nodes : List Lent} {rec count at posi
                 }
 
             module _ {part piece after : List ℕ} {one : Tally}
-                (put : ListPut match s rec count place r.position to (behind r.knn knns') part (behind r.other others') piece gone' after one)
+                (put : ListPut match s rec count place r.position to (behind r.knn knns') part (behind r.other others') piece gone' after
+                one)
               where
                 own-put : ListIs r.position (matches match f.records here.x.tree) (behind r.knn knns') part (behind r.other others') piece
                     gone' after one

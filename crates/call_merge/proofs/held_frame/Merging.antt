@@ -227,7 +227,8 @@ module _ {frame : List ℕ} {n : ℕ} {before scratch : List ℕ} {p : Frames} {
 
   pub merges : (written : List ℕ) (answer root : ℕ) → root ≡ p.old.root + p.new.root - 3
       → Puts (FramesAt (take n copy) p.old frame p.new) merged_frame before written answer
-      → MergedIs frame n before scratch written copy lent (Ok (record { length = answer; root = root; count = p.old.nodes + p.new.nodes + 1 }))
+      → MergedIs frame n before scratch written copy lent
+      (Ok (record { length = answer; root = root; count = p.old.nodes + p.new.nodes + 1 }))
   unfolding with_table finish filled_by written_over
   merges written answer root at put = (
     node_table (M r.both),
@@ -248,7 +249,8 @@ module _ {frame : List ℕ} {n : ℕ} {before scratch : List ℕ} {p : Frames} {
   -- Where it stands and ends, for the records of its nodes.
   pub merged-there : (written : List ℕ) (answer root : ℕ) → root ≡ p.old.root + p.new.root - 3
       → Puts (FramesAt (take n copy) p.old frame p.new) merged_frame before written answer
-      → Merged pair.0 pair.1 p.old p.new n (length frame) written (record { length = answer; root = root; count = p.old.nodes + p.new.nodes + 1 })
+      → Merged pair.0 pair.1 p.old p.new n (length frame) written
+      (record { length = answer; root = root; count = p.old.nodes + p.new.nodes + 1 })
   merged-there written answer root at put =
       let x = r.both.frames.held.stands in
       let y = r.both.frames.given.stands in

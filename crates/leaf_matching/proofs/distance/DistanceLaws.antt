@@ -180,7 +180,8 @@ module _ {s : List ℕ} {nodes : List Lent} {rec at : ℕ} {p : ParsedDistancePr
 
     module _ {left left_end right right_end limit limit_end : ℕ} (far : Between nodes p.distance limit limit_end) where
       -- The geometries that are stored have these indexes.
-      stored : {i j : ℕ} {l r : Expr} → Indexed (index_below (length records)) s nodes i l → Indexed (index_below (length records)) s nodes j r
+      stored : {i j : ℕ} {l r : Expr} → Indexed (index_below (length records)) s nodes i l
+          → Indexed (index_below (length records)) s nodes j r
           → Between nodes i left left_end → Between nodes j right right_end
           → match_leaf records t
           ≡ some (distance (form_number p.form) (join_side side) (on_child records l) (on_child records r)

@@ -83,7 +83,8 @@ knn_at at g options side = KNearestNeighbors (record {
 })
 
 -- What is known once the geometries and the options are read.
-pub record Walked (d : ℕ) (s : List ℕ) (nodes : List Lent) (rec i : ℕ) (k : Called) (g : Geometries) (read : Option KnnOptions) : Type 0 where
+pub record Walked (d : ℕ) (s : List ℕ) (nodes : List Lent) (rec i : ℕ) (k : Called) (g : Geometries)
+    (read : Option KnnOptions) : Type 0 where
   pub same : true ≡ same_name (part s k.name k.end) (ascii "st_knn")
   pub enough : 2 ≤ k.count
   pub noded : OfCall s k (λ c name. NodedAll nodes k.first i)

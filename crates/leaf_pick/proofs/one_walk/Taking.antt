@@ -27,7 +27,8 @@ module _ {s : List ℕ} {rec at : ℕ} {nodes : List Lent} (noded : OfTree s at 
   pub root-argued : Framed s rec at → Argued s rec nodes 0
   root-argued p = (p.0, p.1, root-at p.2)
 
-module _ {match : Matcher} {s : List ℕ} {at : ℕ} {w : Walk SeenLeaf} {records : List Record} {t : Expr} (h : WalkIs match s w records t) where
+module _ {match : Matcher} {s : List ℕ} {at : ℕ} {w : Walk SeenLeaf} {records : List Record} {t : Expr}
+    (h : WalkIs match s w records t) where
   pub walked-nothing : w.found ≡ None → WalkedIs match s at (record { found = None; read = w.read }) records t
   walked-nothing told = record { picked = rw told at h.remembers; walk = h.walk }
 
@@ -55,7 +56,12 @@ module _ {match : Matcher} {s : List ℕ} {at : ℕ} {w : Walk SeenLeaf} {record
           → OfNode nodes seen.index (λ at t. end ≡ at + length (expr_bytes t)) → OfNode nodes up (λ at t. parent ≡ at)
           → WalkedIs match s at
           (record {
-            found = Some (record { predicate = seen.predicate; position = seen.position; cut = record { leaf = leaf; end = end; parent = parent } });
+            found = Some (record {
+              predicate = seen.predicate;
+              position = seen.position;
+              cut =
+                  record { leaf = leaf; end = end; parent = parent };
+            });
             read = w.read;
           }) records t
       walked-leaf start ends begins = record {

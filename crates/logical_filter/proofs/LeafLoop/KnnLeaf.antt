@@ -94,7 +94,8 @@ module _ (b : Bool) where
 
 -- ---- the index that is kept
 
-module _ {c : Columns} {s : List ℕ} {nodes : List Lent} {place i : ℕ} {t : Expr} (stands : Stands c s place t) (h : Noded nodes place i t) where
+module _ {c : Columns} {s : List ℕ} {nodes : List Lent} {place i : ℕ} {t : Expr} (stands : Stands c s place t)
+    (h : Noded nodes place i t) where
   this-leaf : (b : Bool) → eqb (mask spatial_names (leaf_name t ∷ [])) 2048 ≡ b
       → KnnIs s nodes (if b then Some i else None) (first_knn (t ∷ []))
   unfolding first_knn

@@ -25,7 +25,8 @@ sums : (c : After-list_leaf-one)
 sums c =
     let loop = c.loop-index in
     sums-fit loop.invariant c.in-Some.ensures.steps c.requires.list_fits c.start-at.ensures
-    (λ d t stands. single-leaf c.node_at-node.result c.node_at-node.ensures stands c.in_default.not-And) loop.auto.knns loop.auto.others c.list_leaf-one.ensures
+    (λ d t stands. single-leaf c.node_at-node.result c.node_at-node.ensures stands c.in_default.not-And) loop.auto.knns loop.auto.others
+    c.list_leaf-one.ensures
 
 pub of-index-items-requires : goal.of-index-items-requires
 of-index-items-requires c =

@@ -14,10 +14,18 @@ pub returns-then-operator-s : goal.returns-then-operator-s
 unfolding and_record
 returns-then-operator-s c =
     let place : ℕ = c.from-operator.result + 1 in
-    rw (eq-eqb c.args.node.kind 2 c.if-node-ne-BINARY.false, sym c.from-operator.ensures, lt-ltb place (length c.args.s.now) c.if-operator-s.true)
+    rw (
+      eq-eqb c.args.node.kind 2 c.if-node-ne-BINARY.false,
+      sym c.from-operator.ensures,
+      lt-ltb place (length c.args.s.now) c.if-operator-s.true,
+    )
 
 pub returns-else-operator-s : goal.returns-else-operator-s
 unfolding and_record
 returns-else-operator-s c =
     let place : ℕ = c.from-operator.result + 1 in
-    rw (eq-eqb c.args.node.kind 2 c.if-node-ne-BINARY.false, sym c.from-operator.ensures, le-ltb place (length c.args.s.now) c.if-operator-s.false)
+    rw (
+      eq-eqb c.args.node.kind 2 c.if-node-ne-BINARY.false,
+      sym c.from-operator.ensures,
+      le-ltb place (length c.args.s.now) c.if-operator-s.false,
+    )

@@ -42,5 +42,6 @@ returns c =
       rw end at expr.2,
       ap result_of (ends 2 (expression fields) give _ c.in_ok-root.root _ (c.in_ok-root.ensures.2 0) _ _ _ expr.1 end),
       omega (arith, expr.3),
-      read-recorded c.args.row.now c.fill_expression.new.row c.requires c.fill_expression.auto.row expr.2 (omega (arith, expr.3)) expr.4 expr.5,
+      read-recorded c.args.row.now c.fill_expression.new.row c.requires c.fill_expression.auto.row expr.2 (omega (arith, expr.3)) expr.4
+          expr.5,
     )

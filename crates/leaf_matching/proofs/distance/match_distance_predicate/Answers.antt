@@ -59,9 +59,11 @@ returns c =
     let known = rw c.in_ok-distance_side.ensures.ok_part at c.side_of_distance.ensures in
     elim c.match-order.branch [
       | in-LeftRight v ↦ distance-left w over known (c.start-3.ensures, c.end-3.ensures)
-          (rw v.left-is at c.start.ensures, rw v.left-is at c.end.ensures) (rw v.left-is at c.start-2.ensures, rw v.left-is at c.end-2.ensures)
+          (rw v.left-is at c.start.ensures, rw v.left-is at c.end.ensures)
+          (rw v.left-is at c.start-2.ensures, rw v.left-is at c.end-2.ensures)
           (rw (c.in_ok-order.ensures.ok_part, v.in-LeftRight.is) at c.resolve_column_reference_sides.ensures)
       | in-RightLeft v ↦ distance-right w over known (c.start-3.ensures, c.end-3.ensures)
-          (rw v.left-is at c.start.ensures, rw v.left-is at c.end.ensures) (rw v.left-is at c.start-2.ensures, rw v.left-is at c.end-2.ensures)
+          (rw v.left-is at c.start.ensures, rw v.left-is at c.end.ensures)
+          (rw v.left-is at c.start-2.ensures, rw v.left-is at c.end-2.ensures)
           (rw (c.in_ok-order.ensures.ok_part, v.in-RightLeft.is) at c.resolve_column_reference_sides.ensures)
     ]

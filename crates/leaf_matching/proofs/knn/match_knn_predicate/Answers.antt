@@ -13,7 +13,8 @@ use Rattle.leaf_matching.proofs.knn.match_knn_predicate.Goals.{After-knn_options
 
 walked : (c : After-knn_options-given)
     → let start = c.args in
-    Walked start.default_k start.filter.tree.bytes.now start.filter.tree.nodes.now start.filter.rec start.i start.called c.resolve_geometries-geometries.result
+    Walked start.default_k start.filter.tree.bytes.now start.filter.tree.nodes.now start.filter.rec start.i start.called
+    c.resolve_geometries-geometries.result
     c.knn_options-given.result
 unfolding ascii
 walked c =

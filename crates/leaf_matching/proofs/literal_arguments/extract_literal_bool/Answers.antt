@@ -24,7 +24,8 @@ pub returns-then-s-at-ne-LITERAL : goal.returns-then-s-at-ne-LITERAL
 returns-then-s-at-ne-LITERAL c =
     λ d t h. elim c.then-s-at-ne-LITERAL.branch [
       | then-s-at-ne-LITERAL-via-then-s-at-ne-LITERAL w ↦ (no-literal h w.if-s-at-ne-LITERAL.true).1
-      | then-s-at-ne-LITERAL-via-else-s-at-ne-LITERAL+then-s-at-ne1 w ↦ literal-flag h w.if-s-at-ne-LITERAL.false _ (no_flag _ _ w.if-s-at-ne1.true)
+      | then-s-at-ne-LITERAL-via-else-s-at-ne-LITERAL+then-s-at-ne1 w ↦ literal-flag h w.if-s-at-ne-LITERAL.false _
+          (no_flag _ _ w.if-s-at-ne1.true)
     ]
 
 pub long_at-requires : goal.long_at-requires

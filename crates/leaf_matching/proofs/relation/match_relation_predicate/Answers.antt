@@ -12,7 +12,8 @@ use Rattle.leaf_matching.proofs.relation.match_relation_predicate.Goals.{After-r
 
 walked : (c : After-resolve_geometries-geometries)
     → let start = c.args in
-    Walked start.filter.tree.bytes.now start.filter.tree.nodes.now start.filter.rec start.i start.called c.resolve_geometries-geometries.result c.in_ok-relation_type.relation_type
+    Walked start.filter.tree.bytes.now start.filter.tree.nodes.now start.filter.rec start.i start.called
+    c.resolve_geometries-geometries.result c.in_ok-relation_type.relation_type
 walked c =
     record {
       named = sym (rw (c.in_ok-relation_type.ensures.ok_part, c.name.ensures) at c.from_name-named.ensures);

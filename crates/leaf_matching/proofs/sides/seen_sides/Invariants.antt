@@ -6,4 +6,5 @@ use Rattle.leaf_matching.proofs.sides.seen_sides.Given as goal
 
 abbrev pub invariant-loop-place : goal.invariant-loop-place
 invariant-loop-place l =
-    OfArgument l.filter.tree.bytes.now l.filter.rec l.filter.tree.nodes.now l.i (SeesLeft l.filter.tree.bytes.now l.filter.rec (columns_left l.place-iterator) l.seen)
+    OfArgument l.filter.tree.bytes.now l.filter.rec l.filter.tree.nodes.now l.i
+    (SeesLeft l.filter.tree.bytes.now l.filter.rec (columns_left l.place-iterator) l.seen)

@@ -25,7 +25,8 @@ returns-in_default-2 c = no-number-told _ c.if-s-at-ne-LITERAL.false (λ low hig
 
 pub returns-then-bytes-ge-BELOW_ZERO : goal.returns-then-bytes-ge-BELOW_ZERO
 returns-then-bytes-ge-BELOW_ZERO c =
-    below-told _ c.if-s-at-ne-LITERAL.false (omega arith) (omega arith) (omega (arith, c.if-bytes-ge-BELOW_ZERO.true, c.long_at-bytes.ensures))
+    below-told _ c.if-s-at-ne-LITERAL.false (omega arith) (omega arith)
+    (omega (arith, c.if-bytes-ge-BELOW_ZERO.true, c.long_at-bytes.ensures))
 
 pub returns-else-bytes-ge-BELOW_ZERO : goal.returns-else-bytes-ge-BELOW_ZERO
 returns-else-bytes-ge-BELOW_ZERO c =

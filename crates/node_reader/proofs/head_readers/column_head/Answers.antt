@@ -31,7 +31,8 @@ pub returns : goal.returns
 unfolding column_node children_of
 returns c =
     let a = c.args in
-    childless a.s.now (a.at + 1) (column_node a.bound) (column (short_at a.s.now (a.at + 1)) (short_at a.s.now (a.at + 3))) refl (omega arith)
+    childless a.s.now (a.at + 1) (column_node a.bound) (column (short_at a.s.now (a.at + 1)) (short_at a.s.now (a.at + 3))) refl
+    (omega arith)
     (λ n. after _ (short-read a.s.now (a.at + 1) (a.at + 3) n (omega arith) (omega arith))
     ∙ after _ (short-read a.s.now (a.at + 3) (a.at + 5) n (omega arith) (omega arith))
     ∙ passes 6 _ n _ (lt-ltb (short_at a.s.now (a.at + 1)) a.bound (omega (arith, c.short_at.ensures))))

@@ -32,7 +32,8 @@ returns-then-kind-gt6 c =
       | then-kind-gt6-via-else-kind-gt6+then-not-literal_in_range w ↦
           after _ (up-read a.s.now (a.at + 1) n 6 (a.at + 2) (omega arith) (omega arith) w.if-kind-gt6.false)
           ∙ after _ (long-read a.s.now (a.at + 2) (a.at + 10) n (omega arith) (omega arith))
-          ∙ fails 4 _ n _ (sym (ap₂ literal_in_range w.from.ensures w.long_at.ensures) ∙ sym w.literal_in_range.ensures ∙ w.if-not-literal_in_range.true)
+          ∙ fails 4 _ n _ (sym (ap₂ literal_in_range w.from.ensures w.long_at.ensures) ∙ sym w.literal_in_range.ensures
+          ∙ w.if-not-literal_in_range.true)
     ]
 
 pub returns : goal.returns
@@ -42,4 +43,5 @@ returns c =
     childless a.s.now (a.at + 1) literal_node (literal (get_or a.s.now (a.at + 1) 0) (long_at a.s.now (a.at + 2))) refl (omega arith)
     (λ n. after _ (up-read a.s.now (a.at + 1) n 6 (a.at + 2) (omega arith) (omega arith) c.if-kind-gt6.false)
     ∙ after _ (long-read a.s.now (a.at + 2) (a.at + 10) n (omega arith) (omega arith))
-    ∙ passes 4 _ n _ (sym (ap₂ literal_in_range c.from.ensures c.long_at.ensures) ∙ sym c.literal_in_range.ensures ∙ c.if-not-literal_in_range.false))
+    ∙ passes 4 _ n _ (sym (ap₂ literal_in_range c.from.ensures c.long_at.ensures) ∙ sym c.literal_in_range.ensures
+    ∙ c.if-not-literal_in_range.false))

@@ -17,12 +17,14 @@ frame_body-requires c =
 
 pub slice_bounds-tree-end : goal.slice_bounds-tree-end
 slice_bounds-tree-end c =
-    remainder-within (all-bytes c.args.s.now c.type_inv.s) c.args.row.now c.frame_body.new.row c.requires.roomy c.frame_body.auto.row c.requires.few.within
+    remainder-within (all-bytes c.args.s.now c.type_inv.s) c.args.row.now c.frame_body.new.row c.requires.roomy c.frame_body.auto.row
+    c.requires.few.within
     c.requires.few.counted c.in_ok-body.ensures
 
 pub slice_bounds-tree-end-2 : goal.slice_bounds-tree-end-2
 slice_bounds-tree-end-2 c =
-    let within = remainder-within (all-bytes c.args.s.now c.type_inv.s) c.args.row.now c.frame_body.new.row c.requires.roomy c.frame_body.auto.row c.requires.few.within
+    let within = remainder-within (all-bytes c.args.s.now c.type_inv.s) c.args.row.now c.frame_body.new.row c.requires.roomy
+    c.frame_body.auto.row c.requires.few.within
     c.requires.few.counted
     c.in_ok-body.ensures in
     omega (arith, within, length-take c.in_ok-body.body.count c.frame_body.new.row)
@@ -34,7 +36,8 @@ all_have_arguments-requires c =
       _,
       f.1.expr,
       expr-stands f.3.expr,
-      remainder-noded (all-bytes c.args.s.now c.type_inv.s) c.args.row.now c.frame_body.new.row c.requires.roomy c.frame_body.auto.row c.requires.few.within
+      remainder-noded (all-bytes c.args.s.now c.type_inv.s) c.args.row.now c.frame_body.new.row c.requires.roomy c.frame_body.auto.row
+          c.requires.few.within
           c.requires.few.counted f,
     )
 
@@ -42,7 +45,8 @@ pub returns-then-not-all_have_arguments : goal.returns-then-not-all_have_argumen
 unfolding some_remainder
 returns-then-not-all_have_arguments c =
     let f = c.in_ok-body.ensures in
-    let noded = remainder-noded (all-bytes c.args.s.now c.type_inv.s) c.args.row.now c.frame_body.new.row c.requires.roomy c.frame_body.auto.row c.requires.few.within
+    let noded = remainder-noded (all-bytes c.args.s.now c.type_inv.s) c.args.row.now c.frame_body.new.row c.requires.roomy
+    c.frame_body.auto.row c.requires.few.within
     c.requires.few.counted f in
     let short = sym (c.all_have_arguments.ensures _ _ _ (expr-stands f.3.expr) noded) ∙ c.if-not-all_have_arguments.true in
     after _ f.2 ∙ fails 8 _ _ _ short
@@ -51,7 +55,8 @@ pub returns : goal.returns
 unfolding some_remainder
 returns c =
     let f = c.in_ok-body.ensures in
-    let noded = remainder-noded (all-bytes c.args.s.now c.type_inv.s) c.args.row.now c.frame_body.new.row c.requires.roomy c.frame_body.auto.row c.requires.few.within
+    let noded = remainder-noded (all-bytes c.args.s.now c.type_inv.s) c.args.row.now c.frame_body.new.row c.requires.roomy
+    c.frame_body.auto.row c.requires.few.within
     c.requires.few.counted f in
     let enough = sym (c.all_have_arguments.ensures _ _ _ (expr-stands f.3.expr) noded) ∙ c.if-not-all_have_arguments.false in
     (f.0, some f.1, (f.1, refl, f.3), _, after _ f.2 ∙ passes 8 _ _ _ enough)

@@ -9,8 +9,10 @@ returns-then-is_empty c =
 
 pub returns-in-Ok : goal.returns-in-Ok
 returns-in-Ok c =
-    extraction-plan c.args.s.now (Recorded c.whole_extraction.new.row) c.is_empty.ensures c.if-is_empty.false c.requires.other c.in-Ok.ensures
+    extraction-plan c.args.s.now (Recorded c.whole_extraction.new.row) c.is_empty.ensures c.if-is_empty.false c.requires.other
+    c.in-Ok.ensures
 
 pub returns-in-Err : goal.returns-in-Err
 returns-in-Err c =
-    no-extraction c.args.s.now (Recorded c.whole_extraction.new.row) c.is_empty.ensures c.if-is_empty.false c.requires.other _ c.in-Err.ensures
+    no-extraction c.args.s.now (Recorded c.whole_extraction.new.row) c.is_empty.ensures c.if-is_empty.false c.requires.other _
+    c.in-Err.ensures

@@ -20,12 +20,14 @@ pub short_at-requires : goal.short_at-requires
 short_at-requires c =
     omega (
       arith,
-      (column-within c.requires (c.loop-left.invariant c.requires) (omega (arith, c.loop-left-test.true)) c.if-src-end-eq-COLUMN.true).bytes,
+      (column-within c.requires (c.loop-left.invariant c.requires) (omega (arith, c.loop-left-test.true))
+          c.if-src-end-eq-COLUMN.true).bytes,
     )
 
 pub spot_number-requires : goal.spot_number-requires
 spot_number-requires c =
-    let own = column-within c.requires (c.loop-left.invariant c.requires) (omega (arith, c.loop-left-test.true)) c.if-src-end-eq-COLUMN.true in
+    let own = column-within c.requires (c.loop-left.invariant c.requires) (omega (arith, c.loop-left-test.true))
+    c.if-src-end-eq-COLUMN.true in
     (omega (arith, own.limit), omega (arith, c.short_at.ensures, own.child))
 
 pub bounds-row-index : goal.bounds-row-index
@@ -36,7 +38,8 @@ pub loop-left-smaller-then-src-end-eq-COLUMN : goal.loop-left-smaller-then-src-e
 loop-left-smaller-then-src-end-eq-COLUMN c =
     omega (
       arith,
-      (column-within c.requires (c.loop-left.invariant c.requires) (omega (arith, c.loop-left-test.true)) c.if-src-end-eq-COLUMN.true).bytes,
+      (column-within c.requires (c.loop-left.invariant c.requires) (omega (arith, c.loop-left-test.true))
+          c.if-src-end-eq-COLUMN.true).bytes,
     )
 
 pub loop-left-preserved-then-src-end-eq-COLUMN : goal.loop-left-preserved-then-src-end-eq-COLUMN

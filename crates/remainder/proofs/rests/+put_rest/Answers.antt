@@ -65,7 +65,8 @@ put_leaf-requires t c =
     let node = c.node_at in record {
       rest_fits = c.requires.rest_fits;
       of_tree = λ d u stands. (
-        lone-leaf d c.args.tree.bytes.now c.args.place.at u node.result (opened c.in_default.in_default-own.keys2) (node.ensures d u stands),
+        lone-leaf d c.args.tree.bytes.now c.args.place.at u node.result (opened c.in_default.in_default-own.keys2)
+            (node.ensures d u stands),
         c.requires.of_tree d u stands,
       );
     }

@@ -14,20 +14,23 @@ returns-then-self-node-clause-steps c =
     let s = c.loop-self.self in
     sym c.loop-self.invariant
     ∙ left-takes s.bytes.now s.nodes.now s.end s.low s.next c.loop-self-test.true c.if-self.true c.if-self-node.true
-    ∙ ap (λ (p : ℕ). s.next ∷ spine s.bytes.now s.end p (s.next + 1) (drop (s.next + 1) (nodes_of s.nodes.now))) (sym c.low_after-self.ensures)
+    ∙ ap (λ (p : ℕ). s.next ∷ spine s.bytes.now s.end p (s.next + 1) (drop (s.next + 1) (nodes_of s.nodes.now)))
+    (sym c.low_after-self.ensures)
 
 pub returns-then-self-node-clause-goes : goal.returns-then-self-node-clause-goes
 returns-then-self-node-clause-goes c =
     let s = c.loop-self.self in
     let e = ap length (sym c.loop-self.invariant
     ∙ left-takes s.bytes.now s.nodes.now s.end s.low s.next c.loop-self-test.true c.if-self.true c.if-self-node.true
-    ∙ ap (λ (p : ℕ). s.next ∷ spine s.bytes.now s.end p (s.next + 1) (drop (s.next + 1) (nodes_of s.nodes.now))) (sym c.low_after-self.ensures)) in
+    ∙ ap (λ (p : ℕ). s.next ∷ spine s.bytes.now s.end p (s.next + 1) (drop (s.next + 1) (nodes_of s.nodes.now)))
+    (sym c.low_after-self.ensures)) in
     search rules
 
 pub loop-self-preserved : goal.loop-self-preserved
 loop-self-preserved c =
     let s = c.loop-self.self in
-    sym (left-passes s.bytes.now s.nodes.now s.end s.low s.next c.loop-self-test.true c.if-self.true c.if-self-node.false) ∙ c.loop-self.invariant
+    sym (left-passes s.bytes.now s.nodes.now s.end s.low s.next c.loop-self-test.true c.if-self.true c.if-self-node.false)
+    ∙ c.loop-self.invariant
 
 pub returns-else-self-clause-steps : goal.returns-else-self-clause-steps
 returns-else-self-clause-steps c =

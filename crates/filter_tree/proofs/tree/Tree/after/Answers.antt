@@ -32,4 +32,9 @@ returns-else-self-k c at t h =
 
 pub returns-after-loop-k : goal.returns-after-loop-k
 returns-after-loop-k c at t h =
-    omega (arith, c.loop-k.invariant at t h, ap length (scan-out c.args.self.nodes.now (get_or c.args.self.nodes.now c.args.i blank).end c.loop-k.k c.loop-k-test.false))
+    omega (
+      arith,
+      c.loop-k.invariant at t h,
+      ap length (scan-out c.args.self.nodes.now (get_or c.args.self.nodes.now c.args.i blank).end
+          c.loop-k.k c.loop-k-test.false),
+    )
