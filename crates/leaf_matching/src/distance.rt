@@ -55,6 +55,6 @@ pub fn match_distance_predicate(filter: Filter, at: usize, i: usize) -> Matching
         distance: tree.start(parsed.distance),
         distance_end: tree.end(parsed.distance),
         distance_side,
-        form: parsed.form,
+        form: u8::from(parsed.form),
     }))
 }

@@ -2,7 +2,6 @@
 ghost use Rattle.std.specs.Prelude.{◌≤◌, length};
 ghost use Rattle.definitions.specs.Words.Limits.{most_nodes, two_bytes};
 ghost use Rattle.definitions.specs.Bytes.Decode as decode;
-ghost use Rattle.terms.specs.Forms.{form_number};
 ghost use Rattle.terms.specs.Sides.{join_side};
 ghost use Rattle.node_reader.specs.Places.{ExpressionIs, NoClaim};
 ghost use Rattle.plan_reader.specs.Predicates.{PairIs, PredicateIs, distance_arguments};
@@ -77,11 +76,11 @@ fn relation_predicate(s: &[u8], at: usize) -> Result<Counted<SpatialPredicate>, 
 fn distance_arguments(
     s: &[u8],
     left: usize,
-    form: DistanceForm,
+    form: u8,
     distance_side: JoinSide,
 ) -> Result<Counted<SpatialPredicate>, Refusal>
     requires { left ≤ length s.now }
-    ensures { PredicateIs s.now left result (distance_arguments (form_number form) (join_side distance_side)) }
+    ensures { PredicateIs s.now left result (distance_arguments form (join_side distance_side)) }
 {
     let pair = both(s, left)?;
     let bound = argument(s, pair.end, pair.count)?;
@@ -111,7 +110,7 @@ fn distance_predicate(s: &[u8], at: usize) -> Result<Counted<SpatialPredicate>, 
     let (number, next) = byte(s, at)?;
     let form = DistanceForm::try_from(number)?;
     let (side, left) = side_up_to(s, next, 2)?;
-    distance_arguments(s, left, form, side)
+    distance_arguments(s, left, u8::from(form), side)
 }
 
 // KNN: k, spheroid, probe side, ties, left, right.

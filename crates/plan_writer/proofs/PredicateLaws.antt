@@ -11,7 +11,6 @@ use Rattle.std.specs.Borrow.{Bor}
 use Rattle.definitions.specs.Words.Expression.{Predicate}
 use Rattle.definitions.specs.Bytes.Encode.{side_number, relation_number, predicate_kind, predicate_fields}
 use Rattle.definitions.specs.Filter.Exchange.{negate}
-use Rattle.terms.specs.Forms.{form_number}
 use Rattle.terms.specs.Sides.{join_side}
 use Rattle.terms.specs.declared.sides.JoinSide.{JoinSide}
 use Rattle.terms.specs.declared.sides.JoinSide.TheVariants.{Left, Right}
@@ -62,16 +61,16 @@ module _ (indexes : Option (Bor (List ℕ))) (s : List ℕ) where
     abbrev pub bound : Argument
     bound = argument p.distance p.distance_end p.distance_side
 
-    pub distance-view : {form number : ℕ} → form ≡ form_number p.form → number ≡ side_number (join_side p.distance_side) → (P : Predicate)
+    pub distance-view : {number : ℕ} → number ≡ side_number (join_side p.distance_side) → (P : Predicate)
         → DistanceAt (change_of indexes) s p P
-        → Headed (form ∷ number ∷ []) (Both (BothStood indexes s left_one right_one) (Stood indexes s bound))
+        → Headed (p.form ∷ number ∷ []) (Both (BothStood indexes s left_one right_one) (Stood indexes s bound))
         (joined (both_written indexes left_one right_one) (written indexes bound)) (predicate_fields P)
     unfolding predicate_fields
-    distance-view f e P h = record {
+    distance-view e P h = record {
       it = ((h.l, h.r), h.bound);
       stands = record { one = record { one = h.left; two = h.right }; two = h.limit };
       is =
-          rw (h.is, f, e, append_assoc (written indexes left_one h.l) (written indexes right_one h.r) (written indexes bound h.bound));
+          rw (h.is, e, append_assoc (written indexes left_one h.l) (written indexes right_one h.r) (written indexes bound h.bound));
     }
 
 -- What the head of KNN has after k.

@@ -56,7 +56,7 @@ fn put_distance(out: &mut [u8], src: &[u8], p: DistancePredicate, indexes: Optio
         end: p.distance_end,
         side: p.distance_side,
     };
-    out[0] = u8::from(p.form);
+    out[0] = p.form;
     out[1] = u8::from(p.distance_side);
     let w = put_both(out, 2, src, left, right, indexes);
     reproject_column_references_for_side(out, w, src, distance, indexes)

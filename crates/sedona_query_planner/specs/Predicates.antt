@@ -6,7 +6,6 @@ use Rattle.definitions.specs.Words.Expression.{Expr, Record, Predicate, relation
 use Rattle.definitions.specs.Bytes.Decode.{index_below}
 use Rattle.definitions.specs.Filter.Match.{on_child}
 use Rattle.definitions.specs.Filter.Exchange.{negate, exchange_predicate}
-use Rattle.terms.specs.Forms.{form_number}
 use Rattle.terms.specs.Sides.{join_side}
 use Rattle.expression.specs.Nodes.{Spans}
 use Rattle.sedona_query_planner.specs.Relations.{relation_of}
@@ -74,7 +73,7 @@ pub record DistanceAt (change : Change) (s : List ℕ) (p : DistancePredicate) (
   pub left : ArgumentAt change s p.left p.left_end l
   pub right : ArgumentAt change s p.right p.right_end r
   pub limit : ArgumentAt change s p.distance p.distance_end bound
-  pub is : P ≡ distance (form_number p.form) (join_side p.distance_side) (change.to tree.left l) (change.to tree.right r)
+  pub is : P ≡ distance p.form (join_side p.distance_side) (change.to tree.left l) (change.to tree.right r)
       (change.to (join_side p.distance_side) bound)
 
 -- The first geometry of KNN is of the probe side, the second of the other.

@@ -8,7 +8,6 @@ ghost use Rattle.sedona_query_planner.specs.Relations.{relation_of, named_relati
 ghost use Rattle.sedona_query_planner.specs.Predicates.{ties_number, ties_numbered, unchanged, RelationAt, DistanceAt, KnnAt, PredicateAt, Exchanges};
 
 use expression::names::same_name;
-use terms::forms::DistanceForm;
 use terms::sides::JoinSide;
 
 // A predicate of two geometries and what relates them; each argument stands from its start up to its end. These are fields of each struct,
@@ -29,7 +28,8 @@ pub struct DistancePredicate {
     pub distance: usize,
     pub distance_end: usize,
     pub distance_side: JoinSide,
-    pub form: DistanceForm,
+    // The form, by document 01's number.
+    pub form: u8,
 }
 
 #[derive(Clone, Copy)]

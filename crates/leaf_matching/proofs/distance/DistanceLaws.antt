@@ -175,7 +175,7 @@ module _ {s : List ℕ} {nodes : List Lent} {rec at : ℕ} {p : ParsedDistancePr
       distance = limit;
       distance_end = limit_end;
       distance_side = side;
-      form = p.form;
+      form = form_number p.form;
     })
 
     module _ {left left_end right right_end limit limit_end : ℕ} (far : Between nodes p.distance limit limit_end) where

@@ -57,7 +57,7 @@ returns c =
     λ records t over.
     let w = walked (goal.at.returns c).After-side_of_column_references-arg1 in
     let known = rw c.in_ok-distance_side.ensures.ok_part at c.side_of_distance.ensures in
-    elim c.match-order.branch [
+    rw c.from.ensures (elim c.match-order.branch [
       | in-LeftRight v ↦ distance-left w over known (c.start-3.ensures, c.end-3.ensures)
           (rw v.left-is at c.start.ensures, rw v.left-is at c.end.ensures)
           (rw v.left-is at c.start-2.ensures, rw v.left-is at c.end-2.ensures)
@@ -66,4 +66,4 @@ returns c =
           (rw v.left-is at c.start.ensures, rw v.left-is at c.end.ensures)
           (rw v.left-is at c.start-2.ensures, rw v.left-is at c.end-2.ensures)
           (rw (c.in_ok-order.ensures.ok_part, v.in-RightLeft.is) at c.resolve_column_reference_sides.ensures)
-    ]
+    ])

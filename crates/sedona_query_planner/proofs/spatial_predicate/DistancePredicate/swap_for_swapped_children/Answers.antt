@@ -2,7 +2,6 @@
 use mathlib.Core.Path.{sym, ap, ◌∙◌}
 use Rattle.definitions.specs.Words.Expression.{Side, distance}
 use Rattle.definitions.specs.Filter.Exchange.{exchange_predicate}
-use Rattle.terms.specs.Forms.{form_number}
 use Rattle.sedona_query_planner.proofs.spatial_predicate.DistancePredicate.swap_for_swapped_children.Goals as goal
 
 pub returns : goal.returns
@@ -10,5 +9,5 @@ unfolding exchange_predicate
 returns c =
     λ s P h.
     let is = ap exchange_predicate h.is
-    ∙ ap (λ (side : Side). distance (form_number c.args.self.form) side h.r h.l h.bound) (sym c.negate.ensures) in
+    ∙ ap (λ (side : Side). distance c.args.self.form side h.r h.l h.bound) (sym c.negate.ensures) in
     record { l = h.r; r = h.l; bound = h.bound; left = h.right; right = h.left; limit = h.limit; is = is }
