@@ -1,6 +1,6 @@
 // A frame's parts, and what is said of a frame that was read.
 ghost use Rattle.std.specs.Prelude.{◌≤◌, ◌<◌, ◌-◌, ◌≡◌, length};
-ghost use Rattle.definitions.specs.Words.Limits.{most_nodes, two_bytes};
+ghost use Rattle.definitions.specs.Words.Limits.{two_bytes};
 ghost use Rattle.definitions.specs.Bytes.Decode as decode;
 ghost use Rattle.node_reader.specs.Fields.{FieldIs, SkippedIs};
 ghost use Rattle.filter_tree.specs.Trees.{RecordedIfRoom};
@@ -93,7 +93,7 @@ pub fn frame_body(
     at: usize,
     nodes: usize,
 ) -> Result<Counted<Frame>, Refusal>
-    requires { (at ≤ length s.now) × (length s.now < two_bytes) × (nodes ≤ most_nodes) }
+    requires { (at ≤ length s.now) × (length s.now < two_bytes) }
     ensures { BodyIs s.now at nodes result decode.frame_body (RecordedIfRoom row.new) }
 {
     let head = frame_head(s, at)?;

@@ -11,6 +11,7 @@ use Rattle.definitions.specs.Bytes.Encode.{expr_bytes}
 use Rattle.definitions.specs.Bytes.Readers.{read}
 pub use Rattle.theorems.proofs.Tools.{all-bytes, bytes-from}
 use Rattle.theorems.proofs.Inverse.{NodeBack, node-back}
+use Rattle.node_reader.proofs.Walks.{few-before}
 use Rattle.node_reader.specs.declared.walk.Walked.{Walked}
 use Rattle.std.specs.Prelude.{Result, Ok, Err}
 use Rattle.terms.specs.declared.refusals.Refusal.{Refusal}
@@ -49,13 +50,14 @@ module _ (c : Columns) (s : List ℕ) (at levels count : ℕ) (bytes : AllBytes 
       }
 
 -- The walk of a root is the reading of an expression, which stands there; what its visitor holds then says what is claimed.
-module _ (c : Columns) (s : List ℕ) (at before : ℕ) (bytes : AllBytes s) (within : at ≤ length s) (few : before ≤ 1024) where
+module _ (c : Columns) (s : List ℕ) (at before : ℕ) (bytes : AllBytes s) (within : at ≤ length s) where
   module _ (visited : (end index : ℕ) → Expr → Type 0) (claim : (at i : ℕ) → Expr → Type 0)
       (says : (end : ℕ) (e : Expr) → visited end (before + nodes e) e → claim at before e) where
     read-stands : (walked : Walked) → VisitIs s at before (Ok walked) (node c 64) ⊥ visited (λ e. ⊥)
         → ExpressionIs s at before (Ok walked) c claim
     unfolding expression
     read-stands walked (place, e, reads, visits) =
+        let few = few-before c 64 before (drop at s) reads in
         let b = back c s at 64 before bytes within few walked.next reads in
         let there = node-there c s at 64 before bytes within few place reads in (
           e,

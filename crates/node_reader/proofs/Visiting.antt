@@ -84,23 +84,23 @@ module _ {V : Type 0} (D : Deeds V) (s : List ℕ) (at count : ℕ) (child : Rea
                 (drop first.next s) s₁ (sym one.2 ∙ e₁) (λ g. before-refused xs (refuse xs n₂ s₂ g)) e₂))),
           )
 
--- What the loop over a row keeps after `done` of the nodes.
+-- What the loop over a row keeps after `done` of the nodes: they were within the limit, if those before the row were or one was read.
 pub record InVisits {V : Type 0} (D : Deeds V) (s : List ℕ) (at count many : ℕ) (child : Reader Expr) (v : V)
     (next total done : ℕ) (u : V)
     : Type 0 where
   pub place : next ≤ length s
   pub low : count ≤ total
-  pub high : total ≤ 1024
+  pub high : (done ≡ 0 → count ≤ 1024) → total ≤ 1024
   pub rest : (r : Result Walked Refusal) (w : V)
       → RowVisit D s next total r (repeat_exprs (many - done) child) u w
       → RowVisit D s at count r (repeat_exprs many child) v w
 
 module _ {V : Type 0} (D : Deeds V) (s : List ℕ) (at count many : ℕ) (child : Reader Expr) (v : V) where
-  pub visits-begin : at ≤ length s → count ≤ 1024 → InVisits D s at count many child v at count 0 v
-  visits-begin w h = record {
+  pub visits-begin : at ≤ length s → InVisits D s at count many child v at count 0 v
+  visits-begin w = record {
     place = w;
     low = omega arith;
-    high = h;
+    high = λ few. few refl;
     rest = λ r u h. rw sub-zero at h;
   }
 
@@ -118,7 +118,7 @@ module _ {V : Type 0} {D : Deeds V} {s : List ℕ} {at count many : ℕ} {child 
   visits-go-on some first {u₁} one counted = record {
     place = one.0;
     low = omega (arith, inv.low, counted.0);
-    high = counted.1;
+    high = λ few. counted.1;
     rest = λ r w visit. more (many - (done + 1)) (omega arith) r w
         (in-front D s next total child u u₁ first one (many - (done + 1)) r w visit);
   }
@@ -135,6 +135,9 @@ module _ {V : Type 0} {D : Deeds V} {s : List ℕ} {at count many : ℕ} {child 
       let e : many - done ≡ 0 = omega arith in
       inv.rest (Ok (record { next = next; count = total })) u
       (rw e (none-visited D s next total child u inv.place))
+
+  pub visits-counted : many ≤ done → (many ≡ 0 → count ≤ 1024) → Counted count 1 (Ok (record { next = next; count = total }))
+  visits-counted none few = (omega (arith, inv.low), inv.high (λ e. few (omega (arith, none, e))))
 
 -- ---- the node
 
@@ -270,7 +273,7 @@ no-child : {V : Type 0} (D : Deeds V) (c : Columns) (s : List ℕ) (at levels co
     → RowVisit D s head.next (count + 1) (Ok (record { next = head.next; count = count + 1 }))
     (repeat_exprs head.children (node c (levels - 1))) u u
 no-child D c s at levels count head above none u =
-    visits-end (visits-begin D s head.next (count + 1) head.children (node c (levels - 1)) u above.0 (omega (arith, above.5))) (omega arith)
+    visits-end (visits-begin D s head.next (count + 1) head.children (node c (levels - 1)) u above.0) (omega arith)
 
 module _ {V : Type 0} (D : Deeds V) (c : Columns) (s : List ℕ) (at levels count : ℕ) (head : Head)
     (above : NodeHead s at levels count c (Ok head)) (bytes : AllBytes s) (within : at ≤ length s) {v : V} {kind : ℕ}

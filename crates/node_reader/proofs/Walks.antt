@@ -7,8 +7,9 @@ use mathlib.Core.Path.{◌≡◌, refl, sym, ap, ◌∙◌}
 use mathlib.Core.Bool.{Bool, true, false}
 use mathlib.Core.List.{List, [], ◌∷◌}
 use lib.ListN.{length, drop, get_or, drop_of_length-le}
+use lib.Dec.{ltb}
 use lib.Seq.{drop-cons}
-use borrow.Author.Tests.{lt-ltb, le-ltb}
+use borrow.Author.Tests.{lt-ltb, le-ltb, ltb-true, ltb-false}
 use Rattle.definitions.specs.Words.Expression as tree
 use Rattle.definitions.specs.Words.Expression.{Expr, Exprs, nil, cons}
 use Rattle.definitions.specs.Bytes.Readers.{read, stopped, Reader, continue, require}
@@ -19,7 +20,7 @@ use Rattle.terms.specs.Refusals.{number_of}
 use Rattle.expression.specs.declared.heads.Head.{Head}
 use Rattle.node_reader.specs.Heads.{HeadIs, BeyondIs, any_kind}
 use Rattle.node_reader.specs.Nodes.{NodeHead, most_at}
-use Rattle.theorems.proofs.ReaderLaws.{after, halts, step, given}
+use Rattle.theorems.proofs.ReaderLaws.{after, halts, step, given, stopped-not-read}
 
 counts : {B : Type 0} (n : ℕ) (s : List ℕ) (next : Bool → Reader B) → n < 1024 → continue (count_node n s) next ≡ next true (suc n) s
 counts n s next h = ap (λ (t : Bool). continue (if t then read true (suc n) s else stopped 5) next) (lt-ltb n 1024 h)
@@ -67,6 +68,19 @@ no-kind : (c : Columns) (levels n : ℕ) → node c levels n [] ≡ stopped 3
 unfolding node node_kind
 no-kind c zero n = refl
 no-kind c (suc levels) n = refl
+
+-- A node that was read was within the limit.
+few-read : (c : Columns) (levels n : ℕ) (s : List ℕ) (less : Bool) → ltb n 1024 ≡ less → {t : Expr} {m : ℕ} {rest : List ℕ}
+    → node c levels n s ≡ read t m rest → n ≤ 1024
+few-read c levels n s true e r = omega (arith, ltb-true n 1024 e)
+few-read c levels n [] false e {t} {m} {rest} r = absurd (stopped-not-read 3 t m rest (sym (no-kind c levels n) ∙ r))
+few-read c levels n (b ∷ s) false e {t} {m} {rest} r =
+    let many : most_at levels ≤ n = omega (arith, most-at levels, ltb-false n 1024 e) in
+    absurd (stopped-not-read _ t m rest (sym (beyond c n b s levels many (allowed_kind c b) refl) ∙ r))
+
+pub few-before : (c : Columns) (levels n : ℕ) (s : List ℕ) {t : Expr} {m : ℕ} {rest : List ℕ} → node c levels n s ≡ read t m rest
+    → n ≤ 1024
+few-before c levels n s reads = few-read c levels n s (ltb n 1024) refl reads
 
 module _ (c : Columns) (s : List ℕ) (at n levels : ℕ) where
   pub no-byte : length s ≤ at → node c levels n (drop at s) ≡ stopped 3

@@ -1,6 +1,6 @@
 // Expressions of depth at most 64, read by the two walks: into a row of records, against a lent table, or for their refusals alone.
 ghost use Rattle.std.specs.Prelude.{ℕ, ◌≡◌, ◌≤◌, ◌<◌, length};
-ghost use Rattle.definitions.specs.Words.Limits.{most_nodes, two_bytes};
+ghost use Rattle.definitions.specs.Words.Limits.{two_bytes};
 ghost use Rattle.definitions.specs.Bytes.Decode as decode;
 ghost use Rattle.node_reader.specs.Heads.{columns_of, columns_in};
 ghost use Rattle.node_reader.specs.Visits.{NodeVisit, Counted};
@@ -23,7 +23,7 @@ fn only_child<V: Visit, const COLUMN: u8>(
     at: usize,
     count: usize,
 ) -> Result<Walked, Refusal>
-    requires place { (at ≤ length source.now.bytes.now) × (count ≤ most_nodes) }
+    requires place { at ≤ length source.now.bytes.now }
     requires places { (p : ℕ) → p ≤ length source.now.bytes.now → V.deeds.Place p }
     ensures read { NodeVisit V.deeds source.now.bytes.now at count result
         (decode.node (columns_in COLUMN source.now.bound) 64) v.old v.new }
@@ -43,7 +43,7 @@ pub fn root<V: Visit>(
     count: usize,
     columns: Columns,
 ) -> Result<Walked, Refusal>
-    requires place { (at ≤ length s.now) × (count ≤ most_nodes) }
+    requires place { at ≤ length s.now }
     requires places { (p : ℕ) → p ≤ length s.now → V.deeds.Place p }
     ensures read { NodeVisit V.deeds s.now at count result
         (decode.node (columns_of columns) 64) v.old v.new }
@@ -62,7 +62,7 @@ pub fn fill_expression(
     count: usize,
     columns: Columns,
 ) -> Result<Walked, Refusal>
-    requires { (at ≤ length s.now) × (length s.now < two_bytes) × (count ≤ most_nodes) }
+    requires { (at ≤ length s.now) × (length s.now < two_bytes) }
     ensures { ExpressionIs s.now at count result (columns_of columns) (RecordedIfRoom row.new) }
 {
     let mut fill = Fill { row };
@@ -77,7 +77,7 @@ pub fn held_expression(
     count: usize,
     columns: Columns,
 ) -> Result<Walked, Refusal>
-    requires { (at ≤ length s.now) × (count ≤ most_nodes) }
+    requires { at ≤ length s.now }
     ensures { ExpressionHeld s.now at count table.now result (columns_of columns) }
 {
     let mut check = Check { table };
@@ -86,7 +86,7 @@ pub fn held_expression(
 
 // An expression, for its refusals and its end.
 pub fn expression(s: &[u8], at: usize, count: usize, columns: Columns) -> Result<Walked, Refusal>
-    requires { (at ≤ length s.now) × (count ≤ most_nodes) }
+    requires { at ≤ length s.now }
     ensures { ExpressionIs s.now at count result (columns_of columns) NoClaim }
 {
     let mut nothing = Nothing {};

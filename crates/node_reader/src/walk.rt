@@ -101,8 +101,8 @@ fn node<V: Visit, const COLUMN: u8>(
     Ok(after)
 }
 
-// A node's children, one after the other, each with this many levels left. Only the refusal is returned: it stands in registers, and the
-// place with it would not.
+// A node's children, one after the other, each with this many levels left. Each is held to the limit; where there is none, the caller says
+// it. Only the refusal is returned: it stands in registers, and the place with it would not.
 #[inline(never)]
 #[cycle(walks)]
 pub fn children<V: Visit, const COLUMN: u8>(
@@ -112,7 +112,8 @@ pub fn children<V: Visit, const COLUMN: u8>(
     many: usize,
     levels: usize,
 ) -> Result<(), Refusal>
-    requires place { (reached.old.next ≤ length source.now.bytes.now) × (reached.old.count ≤ most_nodes) }
+    requires place { (reached.old.next ≤ length source.now.bytes.now)
+        × (many ≡ 0 → reached.old.count ≤ most_nodes) }
     requires places { (p : ℕ) → p ≤ length source.now.bytes.now → V.deeds.Place p }
     ensures read { RowVisit V.deeds source.now.bytes.now reached.old.next reached.old.count (placed result reached.new)
         (repeat_exprs many (decode.node (columns_in COLUMN source.now.bound) levels)) v.old v.new }

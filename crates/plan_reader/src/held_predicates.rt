@@ -1,6 +1,6 @@
 // The predicate of a held extraction: which it is, and where its arguments stand.
 ghost use Rattle.std.specs.Prelude.{◌≤◌, length};
-ghost use Rattle.definitions.specs.Words.Limits.{most_nodes, two_bytes};
+ghost use Rattle.definitions.specs.Words.Limits.{two_bytes};
 ghost use Rattle.definitions.specs.Bytes.Decode as decode;
 ghost use Rattle.terms.specs.Sides.{join_side};
 ghost use Rattle.node_reader.specs.Places.{ExpressionIs, NoClaim};
@@ -29,7 +29,7 @@ pub struct Pair {
 
 // An argument, whose columns have no bound but their width.
 fn argument(s: &[u8], at: usize, count: usize) -> Result<Walked, Refusal>
-    requires { (at ≤ length s.now) × (count ≤ most_nodes) }
+    requires { at ≤ length s.now }
     ensures { ExpressionIs s.now at count result (decode.index_below two_bytes) NoClaim }
 {
     expression(s, at, count, Columns::Below(65536))

@@ -13,7 +13,7 @@ use Rattle.frame_reader.proofs.frames.logical_frame.Goals as goal
 pub fill_expression-requires : goal.fill_expression-requires
 fill_expression-requires c =
     let begin = c.in_ok-root.ensures in
-    (begin.0, omega (arith, opened-short 2 _ _ _ (begin.2 0)), omega arith)
+    (begin.0, omega (arith, opened-short 2 _ _ _ (begin.2 0)))
 
 pub returns-in_err-root : goal.returns-in_err-root
 unfolding logical_of logical_frame result_of

@@ -12,7 +12,7 @@ use Rattle.frame_reader.proofs.frames.physical_frame_in.Goals as goal
 pub frame_body-requires : goal.frame_body-requires
 frame_body-requires c =
     let begin = c.in_ok-at.ensures in
-    (begin.0, omega (arith, opened-short 1 _ _ _ (begin.2 0)), omega arith)
+    (begin.0, omega (arith, opened-short 1 _ _ _ (begin.2 0)))
 
 pub returns-in_err-at : goal.returns-in_err-at
 unfolding frame_of physical_frame result_of

@@ -6,6 +6,6 @@ use Rattle.node_reader.proofs.expressions.expression.Goals as goal
 pub returns : goal.returns
 returns c =
     let a = c.args in
-    expression-stands _ a.s.now a.at a.count (all-bytes a.s.now c.type_inv.s) c.requires.0 c.requires.1 _ _
+    expression-stands _ a.s.now a.at a.count (all-bytes a.s.now c.type_inv.s) c.requires _ _
     (λ end e read. tt) c.root.result
     (only-read a.s.now a.at a.count 64 _ c.root.result _ c.root.new.v c.root.ensures.read)

@@ -6,5 +6,5 @@ use Rattle.node_reader.proofs.expressions.held_expression.Goals as goal
 pub returns : goal.returns
 returns c =
     let a = c.args in
-    expression-held _ a.s.now a.at a.count (all-bytes a.s.now c.type_inv.s) c.requires.0 c.requires.1 a.table.now c.root.result
+    expression-held _ a.s.now a.at a.count (all-bytes a.s.now c.type_inv.s) c.requires a.table.now c.root.result
     (checked a.s.now a.at a.count 64 _ c.root.result _ c.root.new.v c.root.ensures.read)

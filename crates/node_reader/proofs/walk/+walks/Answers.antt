@@ -2,7 +2,7 @@
 use mathlib.Core.Path.{refl}
 use Rattle.node_reader.proofs.Reading.{kept}
 use Rattle.terms.specs.declared.refusals.Refusal.TheVariants.{NoGoodPlan}
-use Rattle.node_reader.proofs.Visiting.{visits-fail, visits-go-on, visits-end, below-fails, node-visited, closing-fails, leaf-visited}
+use Rattle.node_reader.proofs.Visiting.{visits-fail, visits-go-on, visits-end, visits-counted, below-fails, node-visited, closing-fails, leaf-visited}
 use Rattle.node_reader.proofs.walk.+walks.Goals as goal
 
 pub children-returns-in_err-here-clause-read : goal.children-returns-in_err-here-clause-read
@@ -16,6 +16,10 @@ children-loop-preserved g t c =
 pub children-returns-clause-read : goal.children-returns-clause-read
 children-returns-clause-read g t c =
     visits-end c.loop.invariant c.loop-test.false
+
+pub children-returns-clause-counted : goal.children-returns-clause-counted
+children-returns-clause-counted g t c =
+    visits-counted c.loop.invariant c.loop-test.false c.requires.place.1
 
 pub node-returns-then-head-eq0-clause-read : goal.node-returns-then-head-eq0-clause-read
 node-returns-then-head-eq0-clause-read g t c =

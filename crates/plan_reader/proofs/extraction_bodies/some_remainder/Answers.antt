@@ -13,7 +13,7 @@ use Rattle.plan_reader.proofs.extraction_bodies.some_remainder.Goals as goal
 pub frame_body-requires : goal.frame_body-requires
 frame_body-requires c =
     let few = c.requires.few in
-    (few.within, few.short, few.counted.1)
+    (few.within, few.short)
 
 pub slice_bounds-tree-end : goal.slice_bounds-tree-end
 slice_bounds-tree-end c =
