@@ -82,7 +82,7 @@ pub struct LogicalFrame {
 }
 
 // A whole logical frame, whose nodes go into the row.
-pub fn logical_frame(row: &mut [NodeRecord], s: &[u8]) -> Result<LogicalFrame, Refusal>
+pub fn logical_frame_in(row: &mut [NodeRecord], s: &[u8]) -> Result<LogicalFrame, Refusal>
     requires { Roomy s.now row.old }
     ensures { LogicalIs s.now result (plans.logical_of s.now) (Recorded row.new) }
 {
@@ -95,4 +95,25 @@ pub fn logical_frame(row: &mut [NodeRecord], s: &[u8]) -> Result<LogicalFrame, R
         root,
         nodes: walked.count,
     })
+}
+
+// A whole logical frame, by a row of N places on the stack, of which its nodes need no more.
+fn logical_frame_by<const N: usize>(s: &[u8]) -> Result<LogicalFrame, Refusal>
+    requires { (min most_nodes (length s.now / 3) ≤ N) × (N ≤ most_nodes) }
+    ensures { LogicalIs s.now result (plans.logical_of s.now) NoClaim }
+{
+    logical_frame_in(&mut [NO_RECORD; N], s)
+}
+
+// A whole logical frame.
+pub fn logical_frame(s: &[u8]) -> Result<LogicalFrame, Refusal>
+    ensures { LogicalIs s.now result (plans.logical_of s.now) NoClaim }
+{
+    if s.len() <= SHORT_BYTES {
+        logical_frame_by::<SHORT_NODES>(s)
+    } else if s.len() <= MIDDLE_BYTES {
+        logical_frame_by::<MIDDLE_NODES>(s)
+    } else {
+        logical_frame_by::<MOST_NODES>(s)
+    }
 }

@@ -9,7 +9,7 @@ use super::knn_query_side::{KNNJoinQuerySide, find_knn_query_side};
 use super::predicate_names::{PredicateNames, collect_spatial_predicate_names};
 use filter_tree::lengths::{MIDDLE_BYTES, MIDDLE_NODES, MOST_NODES, SHORT_BYTES, SHORT_NODES};
 use filter_tree::tree::Tree;
-use frame_reader::frames::logical_frame;
+use frame_reader::frames::logical_frame_in;
 use node_table::{NO_RECORD, NodeRecord};
 use terms::refusals::Refusal;
 
@@ -25,7 +25,7 @@ fn logical_in(row: &mut [NodeRecord], frame: &[u8]) -> Result<Names, Refusal>
     requires { Roomy frame.now row.old }
     ensures { names_of result ≡ definitions.logical frame.now }
 {
-    let read = logical_frame(row, frame)?;
+    let read = logical_frame_in(row, frame)?;
     let tree = Tree {
         bytes: frame,
         nodes: &row[..read.nodes],

@@ -8,7 +8,7 @@ use Rattle.definitions.specs.Bytes.Plans.{logical_frame, logical_of}
 use Rattle.node_reader.proofs.Reading.{kept}
 use Rattle.frame_reader.proofs.FrameRows.{opened-short, read-recorded}
 use Rattle.frame_reader.proofs.Wholes.{unopened, body-stops, ends, goes_on}
-use Rattle.frame_reader.proofs.frames.logical_frame.Goals as goal
+use Rattle.frame_reader.proofs.frames.logical_frame_in.Goals as goal
 
 pub fill_expression-requires : goal.fill_expression-requires
 fill_expression-requires c =
