@@ -2,6 +2,7 @@
 ghost use Rattle.std.specs.Prelude.{◌≡◌, ◌+◌, ◌*◌, ◌≤◌, ◌<◌, length};
 ghost use Rattle.remainder.specs.Keys.{key_at, Ended, KeyRow, AmongIs};
 
+use expression::fields::short_at;
 use plan_writer::records::Records;
 
 // The records of a frame, and a flag for each column, set where it is marked.
@@ -24,12 +25,20 @@ pub struct Keyed<'a> {
     pub ghost ended: { Ended keys.now (length keys.now) ends.now },
 }
 
-// The side and child index of the record j, as one number.
+// The side and child index of the record at a place, as one number. No more than these three bytes need stand there.
+pub fn column_key(src: &[u8], at: usize) -> u32
+    requires { at + 3 ≤ length src.now }
+    ensures { result ≡ key_at src.now at }
+{
+    u32::from(src[at]) * 65536 + short_at(src, at + 1) as u32
+}
+
+// The same of the record j.
 pub(crate) fn record_key(records: Records, j: usize) -> u32
     requires { j < records.count }
     ensures { result ≡ key_at records.entry.src.now (records.entry.rec + 5 * j) }
 {
-    u32::from(records.side(j)) * 65536 + u32::from(records.child(j))
+    column_key(records.src, records.rec + 5 * j)
 }
 
 // Writes the keys of the marked columns' records in a row, and sets the flags of their last bytes; answers how many keys there are.
