@@ -10,4 +10,5 @@ pub mod InOrder
 pub mod HeadLaws
 pub mod LeafLaws
 pub mod AndLeaves
+pub mod EndWalk
 pub mod NameLaws

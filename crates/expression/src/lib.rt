@@ -1,7 +1,8 @@
-// Bytes that hold an expression: heads of nodes, the AND-leaves, names and literals.
+// Bytes that hold an expression: heads of nodes, where they end, the AND-leaves, names and literals.
 #![tactic(auto)]
 
 pub mod cuts;
+pub mod ends;
 pub mod fields;
 pub mod heads;
 pub mod kinds;
