@@ -19,7 +19,7 @@ use Rattle.byte_writer.specs.Written.{Wrote, WroteAt}
 use Rattle.byte_writer.proofs.Written.{to_start, store, standing as stands-written}
 use Rattle.remainder.specs.Rests.{bytes_left, left_bytes, gone_flags, RestPut}
 use Rattle.remainder.specs.declared.rests.Stays.{Stays}
-use Rattle.remainder.specs.Pruned.{Prunable, PrunedFits, PrunedPut}
+use Rattle.remainder.specs.Pruned.{Prunable, PrunedToEndFits, PrunedToEndPut}
 use Rattle.remainder.specs.Last.{last_bytes, Left}
 use Rattle.expression.proofs.Standing.{some_bytes}
 
@@ -101,7 +101,7 @@ module _ {s from : List ℕ} {rec count at : ℕ} {gone : List ℕ} {goes : Expr
       pub standing : Standing
       standing = standing_by (without_all goes t) (stays-in (index_below count) goes t left.frame.tree.in_range) wrote refl
 
-      pub pruned-fits : {out : List ℕ} → length (last_bytes goes records t) ≤ length out → PrunedFits s rec count rest r.start out
+      pub pruned-fits : {out : List ℕ} → length (last_bytes goes records t) ≤ length out → PrunedToEndFits s rec count rest r.start out
       pruned-fits fits = record {
         records = records;
         tree = standing.expr;
@@ -110,7 +110,7 @@ module _ {s from : List ℕ} {rec count at : ℕ} {gone : List ℕ} {goes : Expr
         room = omega (arith, ap length standing.bytes);
       }
 
-      pub pruned-put : (out after : List ℕ) (m : ℕ) → PrunedPut s rec count rest r.start out after m
+      pub pruned-put : (out after : List ℕ) (m : ℕ) → PrunedToEndPut s rec count rest r.start out after m
           → (m ≡ length (last_bytes goes records t)) × Wrote (last_bytes goes records t) out after
       pruned-put out after m is =
           subst (λ (x : List ℕ). (m ≡ length x) × Wrote x out after) (sym standing.bytes)

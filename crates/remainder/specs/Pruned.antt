@@ -18,15 +18,27 @@ pub record Prunable (s : List ℕ) (rec count : ℕ) (from : List ℕ) (at : ℕ
 abbrev pub pruned_bytes : List Record → Expr → List ℕ
 pruned_bytes records e = frame_bytes (prune records e)
 
--- There are such, the expression up to the end, and room for that frame; it was written.
+-- There are such, and room for that frame; it was written.
 pub record PrunedFits (s : List ℕ) (rec count : ℕ) (from : List ℕ) (at : ℕ) (out : List ℕ) : Type 0 where
+  pub records : List Record
+  pub tree : Expr
+  pub frame : Prunable s rec count from at records tree
+  pub room : length (pruned_bytes records tree) ≤ length out
+
+abbrev pub PrunedPut : (s : List ℕ) (rec count : ℕ) (from : List ℕ) (at : ℕ) (before after : List ℕ) → ℕ → Type 0
+PrunedPut s rec count from at before after r =
+    (records : List Record) (e : Expr) → Prunable s rec count from at records e
+    → (r ≡ length (pruned_bytes records e)) × Wrote (pruned_bytes records e) before after
+
+-- The same of an expression up to the end.
+pub record PrunedToEndFits (s : List ℕ) (rec count : ℕ) (from : List ℕ) (at : ℕ) (out : List ℕ) : Type 0 where
   pub records : List Record
   pub tree : Expr
   pub frame : Prunable s rec count from at records tree
   pub ends : length from ≡ at + length (expr_bytes tree)
   pub room : length (pruned_bytes records tree) ≤ length out
 
-abbrev pub PrunedPut : (s : List ℕ) (rec count : ℕ) (from : List ℕ) (at : ℕ) (before after : List ℕ) → ℕ → Type 0
-PrunedPut s rec count from at before after r =
+abbrev pub PrunedToEndPut : (s : List ℕ) (rec count : ℕ) (from : List ℕ) (at : ℕ) (before after : List ℕ) → ℕ → Type 0
+PrunedToEndPut s rec count from at before after r =
     (records : List Record) (e : Expr) → Prunable s rec count from at records e → length from ≡ at + length (expr_bytes e)
     → (r ≡ length (pruned_bytes records e)) × Wrote (pruned_bytes records e) before after

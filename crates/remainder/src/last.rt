@@ -3,7 +3,7 @@ ghost use Rattle.expression.specs.Nodes.{OfTree};
 ghost use Rattle.filter_tree.specs.Trees.{Noded};
 ghost use Rattle.remainder.specs.Last.{LastFits, LastPut};
 
-use super::pruned::put_pruned;
+use super::pruned::put_pruned_to_end;
 use super::rests::{Place, put_rest};
 use filter_tree::tree::Tree;
 use plan_writer::records::Records;
@@ -31,5 +31,5 @@ pub fn put_last(
         out[0] = 0;
         return 1;
     }
-    put_pruned(out, records, rest, stays.start)
+    put_pruned_to_end(out, records, rest, stays.start)
 }

@@ -1,18 +1,19 @@
-// The frame of an expression that stands at the end of other bytes: the records that its columns refer to, and the expression over them.
+// The frame of an expression that stands in other bytes: the records that its columns refer to, and the expression over them.
 ghost use Rattle.std.specs.Prelude.{◌≤◌};
-ghost use Rattle.remainder.specs.Pruned.{PrunedFits, PrunedPut};
+ghost use Rattle.remainder.specs.Pruned.{PrunedFits, PrunedPut, PrunedToEndFits, PrunedToEndPut};
 
 use super::kept_records::put_records;
 use super::record_keys::Marked;
 use super::references::collect_column_references;
+use expression::ends::end_node;
 use plan_writer::arguments::reproject_column_references;
 use plan_writer::records::Records;
 
 // With rows for at most N records.
 fn put_pruned_in<const N: usize>(out: &mut [u8], records: Records, from: &[u8], at: usize) -> usize
-    requires pruned_fits { PrunedFits records.src.now records.rec records.count from.now at out.old }
+    requires pruned_fits { PrunedToEndFits records.src.now records.rec records.count from.now at out.old }
     requires count_bound { (records.count ≤ N) × (N ≤ 256) }
-    ensures { PrunedPut records.entry.src.now records.entry.rec records.entry.count from.now at
+    ensures { PrunedToEndPut records.entry.src.now records.entry.rec records.entry.count from.now at
         out.old out.new result }
 {
     let mut used = [false; N];
@@ -30,13 +31,23 @@ fn put_pruned_in<const N: usize>(out: &mut [u8], records: Records, from: &[u8], 
 
 // Writes the frame of the expression at the end of `from` over the records that it refers to; answers its length. Most frames have few
 // records, and need no longer rows cleared.
-pub fn put_pruned(out: &mut [u8], records: Records, from: &[u8], at: usize) -> usize
-    requires { PrunedFits records.src.now records.rec records.count from.now at out.old }
-    ensures { PrunedPut records.entry.src.now records.entry.rec records.entry.count from.now at
+pub fn put_pruned_to_end(out: &mut [u8], records: Records, from: &[u8], at: usize) -> usize
+    requires { PrunedToEndFits records.src.now records.rec records.count from.now at out.old }
+    ensures { PrunedToEndPut records.entry.src.now records.entry.rec records.entry.count from.now at
         out.old out.new result }
 {
     if records.count <= 16 {
         return put_pruned_in::<16>(out, records, from, at);
     }
     put_pruned_in::<256>(out, records, from, at)
+}
+
+// The same of an expression anywhere in `from`, with a look for its end.
+pub fn put_pruned(out: &mut [u8], records: Records, from: &[u8], at: usize) -> usize
+    requires { PrunedFits records.src.now records.rec records.count from.now at out.old }
+    ensures { PrunedPut records.entry.src.now records.entry.rec records.entry.count from.now at
+        out.old out.new result }
+{
+    let end = end_node(from, at);
+    put_pruned_to_end(out, records, &from[..end], at)
 }

@@ -4,13 +4,14 @@ use native.Mathlib.Omega.{arith}
 use mathlib.Core.Path.{◌≡◌, sym, ap, ◌∙◌, subst}
 use mathlib.Core.Bool.{Bool}
 use mathlib.Core.List.{List, ◌++◌}
-use lib.ListN.{length, length-append}
+use lib.ListN.{length, take, length-append}
 use Rattle.definitions.specs.Words.Basics.{big_endian}
 use Rattle.definitions.specs.Words.Expression.{Expr, Record}
 use Rattle.definitions.specs.Bytes.Encode.{expr_bytes, records_bytes}
 use Rattle.definitions.specs.Words.References.{columns_of, map_columns}
 use Rattle.definitions.specs.Bytes.Decode.{index_below}
 use Rattle.expression.specs.Nodes.{Spans}
+use Rattle.expression.proofs.EndWalk.{length-cut, cut-stands}
 use Rattle.definitions.specs.Filter.Extract.{new_index}
 use Rattle.theorems.proofs.Columns.{columns-below}
 use Rattle.byte_writer.specs.Written.{Wrote, WroteAt}
@@ -82,3 +83,12 @@ module _ {s : List ℕ} {rec count : ℕ} {from : List ℕ} {at : ℕ} {records 
           subst (λ (x : List ℕ). (r ≡ length x) × Wrote x before after)
           (ap (λ (y : List ℕ). columns_part (kept_all records (columns_of e)) ++ y) copied ∙ sym parts)
           (to_start (chain (omega arith) written (copy.wrote e (spans long))))
+
+-- Cut where it ends, the expression stands up to the end.
+module _ {s : List ℕ} {rec count : ℕ} {from : List ℕ} {at end : ℕ} {records : List Record} {e : Expr}
+    (f : Prunable s rec count from at records e) (is : end ≡ at + length (expr_bytes e)) where
+  pub cut-prunable : Prunable s rec count (take end from) at records e
+  cut-prunable = record { entries = f.entries; few = f.few; tree = cut-stands f.tree is }
+
+  pub cut-ends : length (take end from) ≡ at + length (expr_bytes e)
+  cut-ends = length-cut f.tree is

@@ -20,8 +20,8 @@ returns-then-stays-end c =
     let call = c.put_rest-stays in
     omega (arith, p.room, ap length (none-bytes p.left (call.ensures _ p.tree p.left.frame.tree) call.auto.out c.if-stays-end.true))))
 
-pub put_pruned-requires : goal.put_pruned-requires
-put_pruned-requires c =
+pub put_pruned_to_end-requires : goal.put_pruned_to_end-requires
+put_pruned_to_end-requires c =
     let p = c.requires.last_fits in
     let call = c.put_rest-stays in
     pruned-fits p.left (call.ensures _ p.tree p.left.frame.tree) call.auto.out c.if-stays-end.false p.room
@@ -32,4 +32,4 @@ returns c =
     let call = c.put_rest-stays in
     pruned-put left (call.ensures _ t left.frame.tree) call.auto.out
     c.if-stays-end.false _ _ _
-    c.put_pruned.ensures
+    c.put_pruned_to_end.ensures
