@@ -11,17 +11,17 @@ use Rattle.std.proofs.lemmas.Grind.{common_steps}
 use Rattle.remainder.specs.Keys.{key_at, MarkedKey, Among, AmongIs, Ended, KeyRow}
 
 -- The keys of the marked ones among the first `i` records are in the row.
-pub record Filled (s : List ℕ) (rec count : ℕ) (flags : List Bool) (keys : List ℕ) (n i : ℕ) (long : ℕ) : Type 0 where
+pub record Filled (s : List ℕ) (rec count : ℕ) (flags keys : List ℕ) (n i : ℕ) (long : ℕ) : Type 0 where
   pub below : i ≤ count
   pub same : length keys ≡ long
   pub row : KeyRow s rec i flags keys n
 
-further : {s : List ℕ} {rec : ℕ} {flags : List Bool} {i key : ℕ} → MarkedKey s rec i flags key → MarkedKey s rec (i + 1) flags key
+further : {s : List ℕ} {rec : ℕ} {flags : List ℕ} {i key : ℕ} → MarkedKey s rec i flags key → MarkedKey s rec (i + 1) flags key
 further k = record { index = k.index; below = omega (arith, k.below); marked = k.marked; same = k.same }
 
-module _ {s : List ℕ} {rec count : ℕ} {flags : List Bool} where
+module _ {s : List ℕ} {rec count : ℕ} {flags : List ℕ} where
   module _ {keys : List ℕ} {n i long : ℕ} (f : Filled s rec count flags keys n i long) (less : i < count) where
-    pub filled-marked : get_or flags i false ≡ true → n < length keys → (key : ℕ) → key ≡ key_at s (rec + 5 * i)
+    pub filled-marked : get_or flags i 0 ≡ 1 → n < length keys → (key : ℕ) → key ≡ key_at s (rec + 5 * i)
         → Filled s rec count flags (set keys n key) (n + 1) (i + 1) long
     filled-marked e room key is =
         let here : get_or (set keys n key) n 0 ≡ key = get_or-set_same keys n key 0 room in
@@ -34,7 +34,7 @@ module _ {s : List ℕ} {rec count : ℕ} {flags : List Bool} where
             each = below_more (λ k. MarkedKey s rec (i + 1) flags (get_or (set keys n key) k 0)) n
                 (λ k b. rw (get_or-set_other keys n k key 0 (λ q. omega (arith, q))) (further (f.row.each k b)))
                 (record { index = i; below = omega arith; marked = e; same = here ∙ is });
-            all = below_more (λ k. get_or flags k false ≡ true → Among (set keys n key) (n + 1) (key_at s (rec + 5 * k))) i
+            all = below_more (λ k. get_or flags k 0 ≡ 1 → Among (set keys n key) (n + 1) (key_at s (rec + 5 * k))) i
                 (λ k b m.
                 let one = f.row.all k b m in
                 (one.0, omega (arith, one.1), get_or-set_other keys n one.0 key 0 (λ q. omega (arith, q, one.1)) ∙ one.2))
@@ -42,7 +42,7 @@ module _ {s : List ℕ} {rec count : ℕ} {flags : List Bool} where
           };
         }
 
-    pub filled-passed : get_or flags i false ≡ false → Filled s rec count flags keys n (i + 1) long
+    pub filled-passed : (get_or flags i 0 ≡ 1 → ⊥) → Filled s rec count flags keys n (i + 1) long
     filled-passed unmarked = record {
       below = omega arith;
       same = f.same;
@@ -50,13 +50,12 @@ module _ {s : List ℕ} {rec count : ℕ} {flags : List Bool} where
         few = omega (arith, f.row.few);
         room = f.row.room;
         each = λ k b. further (f.row.each k b);
-        all = below_more (λ k. get_or flags k false ≡ true → Among keys n (key_at s (rec + 5 * k))) i f.row.all
-            (λ m. absurd (let z : ◌≡◌ {A = ℕ} 0 1 = cc in omega arith));
+        all = below_more (λ k. get_or flags k 0 ≡ 1 → Among keys n (key_at s (rec + 5 * k))) i f.row.all (λ m. absurd (unmarked m));
       };
     }
 
 -- The row without what comes after them.
-pub keys-alone : {s : List ℕ} {rec count : ℕ} {flags : List Bool} {keys : List ℕ} {n : ℕ} → KeyRow s rec count flags keys n
+pub keys-alone : {s : List ℕ} {rec count : ℕ} {flags keys : List ℕ} {n : ℕ} → KeyRow s rec count flags keys n
     → KeyRow s rec count flags (take n keys) (length (take n keys))
 keys-alone {keys = keys} {n = n} row =
     let long : length (take n keys) ≡ n = length-take-le n keys row.room in

@@ -93,21 +93,21 @@ module _ {A : Type 0} {P : ℕ → Type 0} (cut : Cut) (f : A → ℕ → A) {go
 -- ---- marks
 
 -- A column's flag set.
-abbrev pub mark_column : (s : List ℕ) → List Bool → (place : ℕ) → List Bool
-mark_column s flags place = set flags (index_in s place) true
+abbrev pub mark_column : (s : List ℕ) → List ℕ → (place : ℕ) → List ℕ
+mark_column s flags place = set flags (index_in s place) 1
 
 abbrev pub MarkPlace : (s : List ℕ) (n place : ℕ) → Type 0
 MarkPlace s n place = (place + 5 ≤ length s) × (index_in s place < n)
 
-abbrev pub Marking : (s : List ℕ) → Cut → (n : ℕ) (before : List Bool) (left : List ℕ) (now : List Bool) → Expr → Type 0
+abbrev pub Marking : (s : List ℕ) → Cut → (n : ℕ) (before left now : List ℕ) → Expr → Type 0
 Marking s cut n before left now e =
     Changing (MarkPlace s n) (outside_only cut (mark_column s)) (marked (columns_of e) before) left now
 
-marks : (s : List ℕ) (flags : List Bool) (places : List ℕ)
+marks : (s flags places : List ℕ)
     → fold (mark_column s) flags places ≡ marked (map (index_in s) places) flags
 unfolding marked
 marks s flags [] = refl
-marks s flags (p ∷ places) = marks s (set flags (index_in s p) true) places
+marks s flags (p ∷ places) = marks s (set flags (index_in s p) 1) places
 
 -- The columns that are read are those of the expression.
 all-read : {n : ℕ} {s : List ℕ} {nodes : List Lent} {cut : Cut} {at : ℕ} {t e : Expr} → LeftAt (index_below n) s nodes cut at t e
@@ -115,7 +115,7 @@ all-read : {n : ℕ} {s : List ℕ} {nodes : List Lent} {cut : Cut} {at : ℕ} {
 all-read {n} {at = at} {t = t} h read = (read (index_below n) at t h.stands h.noded).places ∙ places-are at t
 
 pub marking-begins : {n : ℕ} {s : List ℕ} {nodes : List Lent} {cut : Cut} {at : ℕ} {t e : Expr}
-    → LeftAt (index_below n) s nodes cut at t e → {left : List ℕ} → OfColumns s nodes 0 left → (before : List Bool)
+    → LeftAt (index_below n) s nodes cut at t e → {left : List ℕ} → OfColumns s nodes 0 left → (before : List ℕ)
     → Marking s cut n before left before e
 marking-begins {n} {s} {cut = cut} {at = at} {t = t} {e = e} h read before =
     subst (λ (left : List ℕ). Marking s cut n before left before e) (sym (all-read h read)) (record {

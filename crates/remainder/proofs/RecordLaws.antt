@@ -81,17 +81,17 @@ unfolding any
 any_none test P f [] h = refl
 any_none test P f (c ∷ cs) h = ap₂ ◌||◌ (f c h.0) (any_none test P f cs h.1)
 
-module _ {s : List ℕ} {rec count : ℕ} {flags : List Bool} {records : List Record} {columns : List ℕ}
+module _ {s : List ℕ} {rec count : ℕ} {flags : List ℕ} {records : List Record} {columns : List ℕ}
     (m : MarkedBy s rec count flags records columns) (j : ℕ) (below : j < count) where
   test : ℕ → Bool
   test index = same_column (record_at records index) (record_at records j)
 
-  referenced-here : (i : ℕ) → i < count → get_or flags i false ≡ true → test i ≡ true → true ≡ stays records columns (record_at records j)
+  referenced-here : (i : ℕ) → i < count → get_or flags i 0 ≡ 1 → test i ≡ true → true ≡ stays records columns (record_at records j)
   unfolding test
   referenced-here i b e same = sym (any_found test i columns (m.flagged.only i b e) same)
 
   -- Its own column is marked.
-  pub marked-stays : get_or flags j false ≡ true → true ≡ stays records columns (record_at records j)
+  pub marked-stays : get_or flags j 0 ≡ 1 → true ≡ stays records columns (record_at records j)
   unfolding test
   marked-stays e = referenced-here j below e (same-column-refl (record_at records j))
 
@@ -104,7 +104,7 @@ module _ {s : List ℕ} {rec count : ℕ} {flags : List Bool} {records : List Re
       let one = row.each found.0 found.1 in
       referenced-here one.index one.below one.marked
       (keys-same (entry_of m.entries one.index one.below) (entry_of m.entries j below) (sym one.same ∙ found.2))
-  among-stays row false none = sym (any_none test (λ index. (index < count) × (get_or flags index false ≡ true))
+  among-stays row false none = sym (any_none test (λ index. (index < count) × (get_or flags index 0 ≡ 1))
       (λ index h. let one = row.all index h.0 h.1 in
       keys-apart (entry_of m.entries index h.0) (entry_of m.entries j below) (λ e. none one.0 one.1 (one.2 ∙ e)))
       columns m.flagged.held)
@@ -154,7 +154,7 @@ one-most : (test : Record → Bool) (r : Record) (b : Bool) → test r ≡ b →
 one-most test r true e = omega (arith, ap length (yes-kept test r e), record-length r)
 one-most test r false e = omega (arith, ap length (not-kept test r e))
 
-module _ {s : List ℕ} {rec count : ℕ} {flags : List Bool} {j kept : ℕ} {before : List ℕ} (p : OneFits s rec count flags j kept before) where
+module _ {s : List ℕ} {rec count : ℕ} {flags : List ℕ} {j kept : ℕ} {before : List ℕ} (p : OneFits s rec count flags j kept before) where
   pub one-within : rec + 5 * j + 5 ≤ length s
   one-within = omega (arith, placed.fits (entry_of p.is.entries j p.below).bytes, record-length (record_at p.records j))
 
@@ -168,7 +168,7 @@ module _ {s : List ℕ} {rec count : ℕ} {flags : List Bool} {j kept : ℕ} {be
         record-length r,
       )
 
-module _ {s : List ℕ} {rec count : ℕ} {flags : List Bool} (j kept : ℕ) (before : List ℕ) where
+module _ {s : List ℕ} {rec count : ℕ} {flags : List ℕ} (j kept : ℕ) (before : List ℕ) where
   pub one_kept : (part : List ℕ) → part ≡ take 5 (drop (rec + 5 * j) s) ++ drop 5 (behind (5 * kept) before) → j < count
       → Referenced s rec count flags j true
       → OneKept s rec count flags j kept before (together (5 * kept) before part) (kept + 1)
@@ -187,7 +187,7 @@ module _ {s : List ℕ} {rec count : ℕ} {flags : List Bool} (j kept : ℕ) (be
 -- ---- the loop over the records
 
 -- The first j records are done, and `kept` of them stay.
-pub record Keeping (s : List ℕ) (rec count : ℕ) (flags : List Bool) (before : List ℕ) (room : ℕ) (out to : List ℕ)
+pub record Keeping (s : List ℕ) (rec count : ℕ) (flags : List ℕ) (before : List ℕ) (room : ℕ) (out to : List ℕ)
     (kept j : ℕ) : Type 0 where
   pub below : j ≤ count
   pub fewer : kept ≤ j
@@ -197,7 +197,7 @@ pub record Keeping (s : List ℕ) (rec count : ℕ) (flags : List Bool) (before 
       (λ records columns. AllKept (records_bytes (keep (stays records columns) (take j records))) before out to j
       records columns (5 * kept))
 
-module _ {s : List ℕ} {rec count : ℕ} {flags : List Bool} {before : List ℕ} where
+module _ {s : List ℕ} {rec count : ℕ} {flags : List ℕ} {before : List ℕ} where
   pub keeping_none : (to : List ℕ) → Keeping s rec count flags before (length to) before to 0 0
   unfolding keep records_bytes
   keeping_none to = record {
@@ -271,7 +271,7 @@ module _ {s : List ℕ} {rec count : ℕ} {flags : List Bool} {before : List ℕ
 
 -- ---- with the first byte and the count
 
-pub columns-put : {s : List ℕ} {rec count : ℕ} {flags : List Bool} (before part : List ℕ) {to after : List ℕ} (kept : ℕ) {r : ℕ}
+pub columns-put : {s : List ℕ} {rec count : ℕ} {flags : List ℕ} (before part : List ℕ) {to after : List ℕ} (kept : ℕ) {r : ℕ}
     → 3 ≤ length before
     → RecordsKept s rec count flags (behind 3 before) part to kept
     → WroteAt 0 (frame_head kept) (together 3 before part) after r

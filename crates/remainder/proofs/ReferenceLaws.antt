@@ -2,7 +2,6 @@
 use Prim.Native.Nat.{ℕ, ◌+◌, ◌≤◌, ◌<◌}
 use native.Mathlib.Omega.{arith}
 use mathlib.Core.Path.{◌≡◌, refl, sym, ap, ◌∙◌, subst}
-use mathlib.Core.Bool.{Bool, true}
 use mathlib.Core.List.{List, ◌++◌, append-nil, append_assoc}
 use lib.ListN.{length, get_or, set, length-set}
 use Rattle.definitions.specs.Words.Basics.{big_endian}
@@ -27,14 +26,14 @@ columns-then nil us = refl
 columns-then (cons t ts) us = rw (columns-then ts us) (sym (append_assoc (columns_of t) (columns_of_all ts) (columns_of_all us)))
 
 -- The nodes that are left, with a flag for each of `bound` columns; x is what the flags will be.
-pub record Collecting (s : List ℕ) (end bound : ℕ) (x : List Bool) (next : ℕ) (used : List Bool) : Type 0 where
+pub record Collecting (s : List ℕ) (end bound : ℕ) (x : List ℕ) (next : ℕ) (used : List ℕ) : Type 0 where
   pub trees : Exprs
   pub left : UpTo (index_below bound) s next end trees
   pub same : length used ≡ bound
   pub whole : x ≡ marked (columns_of_all trees) used
 
 module _ {s : List ℕ} {at end : ℕ} where
-  pub collecting-begins : {before : List Bool} (p : Flagged s at end before)
+  pub collecting-begins : {before : List ℕ} (p : Flagged s at end before)
       → Collecting s end (length before) (marked (columns_of p.0) before) at before
   unfolding columns_of_all
   collecting-begins {before} p = record {
@@ -44,12 +43,12 @@ module _ {s : List ℕ} {at end : ℕ} where
     whole = ap (λ (l : List ℕ). marked l before) (sym (append-nil (columns_of p.0)));
   }
 
-  pub all-collected : (before : List Bool) {after : List Bool} (p : Flagged s at end before) → after ≡ marked (columns_of p.0) before
+  pub all-collected : (before : List ℕ) {after : List ℕ} (p : Flagged s at end before) → after ≡ marked (columns_of p.0) before
       → Collected s at end before after
   all-collected before {after} p is t h =
       of_tree (λ t. after ≡ marked (columns_of t) before) p.1.stands is (index_below (length before)) t h.stands
 
-module _ {s : List ℕ} {end bound : ℕ} {x : List Bool} {next : ℕ} {used : List Bool} (inv : Collecting s end bound x next used) where
+module _ {s : List ℕ} {end bound : ℕ} {x : List ℕ} {next : ℕ} {used : List ℕ} (inv : Collecting s end bound x next used) where
   pub collecting-ends : end ≤ next → used ≡ x
   unfolding columns_of_all marked
   collecting-ends past = none-up-to (λ ts. x ≡ marked (columns_of_all ts) used → used ≡ x) (λ e. sym e) past inv.trees inv.left inv.whole
@@ -73,19 +72,19 @@ module _ {s : List ℕ} {end bound : ℕ} {x : List Bool} {next : ℕ} {used : L
           (omega (arith, fits own.bytes, column-size index (short_at s (next + 3))), omega (arith, own.below, inv.same))
 
       passed : (i g : ℕ) (us : Exprs) → i ≡ index → UpTo (index_below bound) s next end (cons (column i g) us)
-          → x ≡ marked (columns_of_all (cons (column i g) us)) used → Collecting s end bound x (next + 5) (set used index true)
+          → x ≡ marked (columns_of_all (cons (column i g) us)) used → Collecting s end bound x (next + 5) (set used index 1)
       unfolding columns_of columns_of_all marked children_of and_then head_bytes big_endian
       passed i g us is h e = record {
         trees = us;
         left = opened h (next + 5) refl;
         same = simp length-set inv.same;
-        whole = e ∙ ap (λ (j : ℕ). marked (columns_of_all us) (set used j true)) is;
+        whole = e ∙ ap (λ (j : ℕ). marked (columns_of_all us) (set used j 1)) is;
       }
 
-      pub column-passed : Collecting s end bound x (next + 5) (set used index true)
-      column-passed = some-up-to (λ ts. x ≡ marked (columns_of_all ts) used → Collecting s end bound x (next + 5) (set used index true))
+      pub column-passed : Collecting s end bound x (next + 5) (set used index 1)
+      column-passed = some-up-to (λ ts. x ≡ marked (columns_of_all ts) used → Collecting s end bound x (next + 5) (set used index 1))
           (λ t us h. subst (λ (t : Expr). UpTo (index_below bound) s next end (cons t us) → x ≡ marked (columns_of_all (cons t us)) used
-          → Collecting s end bound x (next + 5) (set used index true))
+          → Collecting s end bound x (next + 5) (set used index 1))
           (sym (column-is (first-up-to h) zero).tree) (passed index (short_at s (next + 3)) us refl) h)
           more inv.trees inv.left inv.whole
 

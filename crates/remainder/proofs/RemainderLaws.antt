@@ -2,7 +2,6 @@
 use Prim.Native.Nat.{ℕ, ◌+◌, ◌≤◌, ◌<◌}
 use native.Mathlib.Omega.{arith}
 use mathlib.Core.Path.{◌≡◌, sym, ap, ◌∙◌, subst}
-use mathlib.Core.Bool.{Bool, false}
 use mathlib.Core.List.{List, [], ◌∷◌, ◌++◌, append_assoc}
 use mathlib.Core.Option.{Option, map}
 use lib.ListN.{length, set, replicate, length-append, length-replicate}
@@ -35,11 +34,11 @@ use Rattle.remainder.proofs.FlagLaws.{held-flags, no_flag}
 
 -- Rows as they are made, for so many records, and once the flags were set.
 pub clear-rows : (n count : ℕ) → count ≤ n
-    → (count ≤ length {A = Bool} (replicate n false)) × RowsFit count (replicate n 0) (replicate n 0) × Unmarked (replicate n false)
+    → (count ≤ length {A = ℕ} (replicate n 0)) × RowsFit count (replicate n 0) (replicate n 0) × Unmarked (replicate n 0)
 clear-rows n count room =
     let row : List ℕ = replicate n 0 in
     let fits : count ≤ length row = simp length-replicate room in
-    (simp length-replicate room, record { numbered = fits; keyed = fits }, no_flag n)
+    (fits, record { numbered = fits; keyed = fits }, no_flag n)
 
 -- ---- the frame's bytes
 
@@ -78,11 +77,11 @@ module _ {s from : List ℕ} {nodes : List Lent} {rec count at : ℕ} {cut : Cut
     left = left.without-leaf;
   }
 
-  pub still-unheld : {up : ℕ} (flags : List Bool) → CutAt cut up t at position → count ≤ length flags → Unmarked flags
+  pub still-unheld : {up : ℕ} (flags : List ℕ) → CutAt cut up t at position → count ≤ length flags → Unmarked flags
       → Unheld from nodes cut flags
   still-unheld flags cutting room clear = (at, t, e, in-tree room cutting, clear)
 
-  module _ (flags used : List Bool) {up : ℕ} (cutting : CutAt cut up t at position) (room : count ≤ length flags)
+  module _ (flags used : List ℕ) {up : ℕ} (cutting : CutAt cut up t at position) (room : count ≤ length flags)
       (same : length used ≡ length flags) (is : HeldMarked from nodes cut flags used) where
     -- The flags mark the columns of what is left.
     rest-marked : MarkedBy s rec count used records (columns_of e)

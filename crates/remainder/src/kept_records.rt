@@ -13,7 +13,7 @@ fn is_referenced(keyed: Keyed, j: usize) -> bool
     ensures { Referenced keyed.entry.marked.records.src.now keyed.entry.marked.records.rec keyed.entry.marked.records.count
         keyed.entry.marked.used.now j result }
 {
-    if keyed.marked.used[j] {
+    if keyed.marked.used[j] == 1 {
         return true;
     }
     let key = record_key(keyed.marked.records, j);

@@ -16,7 +16,7 @@ fn put_pruned_in<const N: usize>(out: &mut [u8], records: Records, from: &[u8], 
     ensures { PrunedToEndPut records.entry.src.now records.entry.rec records.entry.count from.now at
         out.old out.new result }
 {
-    let mut used = [false; N];
+    let mut used = [0u8; N];
     let mut to = [0u16; N];
     let mut keys = [0u32; N];
     let end = from.len();

@@ -5,11 +5,11 @@ ghost use Rattle.remainder.specs.Keys.{key_at, Ended, KeyRow, AmongIs};
 use expression::fields::short_at;
 use plan_writer::records::Records;
 
-// The records of a frame, and a flag for each column, set where it is marked.
+// The records of a frame, and a flag for each column: 1 where it is marked.
 #[derive(Clone, Copy)]
 pub struct Marked<'a> {
     pub records: Records<'a>,
-    pub used: &'a [bool],
+    pub used: &'a [u8],
     pub ghost flagged: { records.count ≤ length used.now },
 }
 
@@ -51,7 +51,7 @@ pub fn marked_keys(keys: &mut [u32], ends: &mut [bool], marked: Marked) -> usize
 {
     let mut n = 0;
     for i in 0..marked.records.count {
-        if marked.used[i] {
+        if marked.used[i] == 1 {
             let key = record_key(marked.records, i);
             keys[n] = key;
             ends[(key % 256) as usize] = true;

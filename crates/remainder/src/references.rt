@@ -9,14 +9,14 @@ use expression::kinds;
 
 // Marks the columns of the expression that stands from one place up to another. Its nodes stand one after another, so that a step is as
 // long as a node's head.
-pub fn collect_column_references(used: &mut [bool], src: &[u8], at: usize, end: usize)
+pub fn collect_column_references(used: &mut [u8], src: &[u8], at: usize, end: usize)
     requires { Flagged src.now at end used.old }
     ensures { Collected src.now at end used.old used.new }
 {
     let mut next = at;
     while next < end {
         if src[next] == kinds::COLUMN {
-            used[short_at(src, next + 1)] = true;
+            used[short_at(src, next + 1)] = 1;
             next += 5;
         } else {
             next = head_at(src, next).next;

@@ -16,13 +16,13 @@ use filter_tree::tree::Tree;
 use plan_writer::records::Records;
 
 // Marks the indexes that are held: those of the columns outside the leaf, which are left.
-fn collect_held(used: &mut [bool], tree: Tree, cut: Cut)
+fn collect_held(used: &mut [u8], tree: Tree, cut: Cut)
     requires { Unheld tree.bytes.now tree.nodes.now cut used.old }
     ensures { HeldMarked tree.entry.bytes.now tree.entry.nodes.now cut used.old used.new }
 {
     for place in tree.columns(0) {
         if is_outside(cut, place) {
-            used[short_at(tree.bytes, place + 1)] = true;
+            used[short_at(tree.bytes, place + 1)] = 1;
         }
     }
 }
@@ -44,7 +44,7 @@ fn replace_join_filter_expr<const N: usize>(
     ensures { RemainderPut records.entry.src.now records.entry.rec records.entry.count
         tree.entry.bytes.now at cut out.old out.new result }
 {
-    let mut used = [false; N];
+    let mut used = [0u8; N];
     let mut to = [0u16; N];
     let mut keys = [0u32; N];
     collect_held(&mut used, tree, cut);

@@ -2,7 +2,6 @@
 use Prim.Native.Nat.{ℕ, ◌+◌, ◌≤◌}
 use native.Mathlib.Omega.{arith}
 use mathlib.Core.Path.{◌≡◌, sym, ap, ◌∙◌, subst}
-use mathlib.Core.Bool.{Bool}
 use mathlib.Core.List.{List, ◌++◌}
 use lib.ListN.{length, take, length-append}
 use Rattle.definitions.specs.Words.Basics.{big_endian}
@@ -43,10 +42,10 @@ module _ {s : List ℕ} {rec count : ℕ} {from : List ℕ} {at : ℕ} {records 
   spans : {n : ℕ} → count ≤ n → Spans (index_below n) from at (length from) e
   spans wide = record { stands = wider-stands wide f.tree; ends = ends }
 
-  pub plain-flagged : (flags : List Bool) → count ≤ length flags → Flagged from at (length from) flags
+  pub plain-flagged : (flags : List ℕ) → count ≤ length flags → Flagged from at (length from) flags
   plain-flagged flags room = (e, spans room)
 
-  module _ (flags used : List Bool) (room : count ≤ length flags) (clear : Unmarked flags) (same : length used ≡ length flags)
+  module _ (flags used : List ℕ) (room : count ≤ length flags) (clear : Unmarked flags) (same : length used ≡ length flags)
       (is : Collected from at (length from) flags used) where
     marks : Marks e used
     marks = subst (Marks e) (sym (is e (spans room))) (held-marks e flags clear)

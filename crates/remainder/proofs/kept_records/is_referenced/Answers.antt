@@ -13,16 +13,16 @@ use Rattle.remainder.proofs.RecordLaws.{marked-stays, among-stays}
 use Rattle.remainder.proofs.kept_records.is_referenced.Goals as goal
 
 -- It stays if its key is among theirs.
-by_key : {s : List ℕ} {rec count : ℕ} {flags : List Bool} {keys : List ℕ} → ∥ KeyRow s rec count flags keys (length keys) ∥₁
+by_key : {s : List ℕ} {rec count : ℕ} {flags keys : List ℕ} → ∥ KeyRow s rec count flags keys (length keys) ∥₁
     → (j : ℕ) → j < count → (key : ℕ) → key ≡ key_at s (rec + 5 * j) → (answer : Bool) → AmongIs keys (length keys) key answer
     → Referenced s rec count flags j answer
 by_key {keys = keys} some_row j below key is answer told = λ records columns m.
     ∥∥₁_elim some_row (Bool-set _ _) (λ row.
     among-stays m j below row answer (subst (λ k. AmongIs keys (length keys) k answer) is told))
 
-pub returns-then-keyed-j : goal.returns-then-keyed-j
-returns-then-keyed-j c =
-    λ records columns m. marked-stays m c.args.j c.requires c.if-keyed-j.true
+pub returns-then-keyed-j-eq1 : goal.returns-then-keyed-j-eq1
+returns-then-keyed-j-eq1 c =
+    λ records columns m. marked-stays m c.args.j c.requires c.if-keyed-j-eq1.true
 
 pub returns-then-keyed-key : goal.returns-then-keyed-key
 returns-then-keyed-key c =

@@ -1,7 +1,6 @@
 -- `collect_held`: the columns outside the leaf are those of what is left, and before the loop no flag was set.
 use native.Mathlib.Omega.{arith}
 use mathlib.Core.Path.{sym, ap, subst}
-use mathlib.Core.Bool.{true}
 use lib.ListN.{set}
 use Rattle.remainder.specs.HeldIndexes.{Marks}
 use Rattle.remainder.proofs.FlagLaws.{held-marks}
@@ -40,7 +39,7 @@ pub loop-place-preserved-then-is_outside : goal.loop-place-preserved-then-is_out
 loop-place-preserved-then-is_outside c =
     λ at t e left.
     change-outside c.args.cut (mark_column c.args.tree.bytes.now) (c.loop-place.invariant at t e left) c.in-Some.ensures.steps
-    c.if-is_outside.ensures _ (ap (λ k. set c.loop-place.used k true) c.short_at.ensures)
+    c.if-is_outside.ensures _ (ap (λ k. set c.loop-place.used k 1) c.short_at.ensures)
 
 pub loop-place-preserved : goal.loop-place-preserved
 loop-place-preserved c =

@@ -1,7 +1,6 @@
 -- `replace_join_filter_expr`: the flags are those of what is left, its records are written, and the expression over them after those.
 use Prim.Native.Nat.{◌≤◌}
 use native.Mathlib.Omega.{arith}
-use mathlib.Core.Bool.{false}
 use lib.ListN.{length, replicate}
 use Rattle.remainder.proofs.CutLaws.{something-left}
 use Rattle.remainder.proofs.RemainderLaws.{still-unheld, clear-rows, records-fit, records-end, expr-fits, frame-put}
@@ -19,7 +18,7 @@ ended g c =
     omega (
       arith,
       c.put_records-w.auto.out,
-      records-end p.frame c.requires.of_tree left (replicate g.row.N false) flags.new.used p.cutting clear.0 flags.auto.used
+      records-end p.frame c.requires.of_tree left (replicate g.row.N 0) flags.new.used p.cutting clear.0 flags.auto.used
           flags.ensures c.put_records-w.ensures p.room,
     )
 
@@ -29,7 +28,7 @@ pub collect_held-requires : goal.collect_held-requires
 collect_held-requires g c =
     let p = c.requires.remainder_fits in
     let left = (something-left p.cutting c.requires.leaf_elsewhere).1 in
-    still-unheld p.frame c.requires.of_tree left (replicate g.row.N false) p.cutting
+    still-unheld p.frame c.requires.of_tree left (replicate g.row.N 0) p.cutting
     (clear-rows g.row.N c.args.records.count c.requires.count_bound.0).0
     (clear-rows g.row.N c.args.records.count c.requires.count_bound.0).2
 
@@ -42,7 +41,7 @@ put_records-w-requires g c =
     let flags = c.collect_held in
     let p = c.requires.remainder_fits in
     let left = (something-left p.cutting c.requires.leaf_elsewhere).1 in
-    let used = (replicate g.row.N false) in
+    let used = (replicate g.row.N 0) in
     let clear = clear-rows g.row.N c.args.records.count c.requires.count_bound.0 in record {
       all_fit = records-fit p.frame c.requires.of_tree left used flags.new.used p.cutting clear.0 flags.auto.used flags.ensures
           c.args.out.now p.room;
@@ -64,7 +63,7 @@ reproject_remainder-requires g c =
     let left = (something-left p.cutting c.requires.leaf_elsewhere).1 in
     let put = c.put_records-w in
     let clear = clear-rows g.row.N c.args.records.count c.requires.count_bound.0 in
-    expr-fits p.frame c.requires.of_tree left (replicate g.row.N false) flags.new.used p.cutting clear.0 flags.auto.used flags.ensures
+    expr-fits p.frame c.requires.of_tree left (replicate g.row.N 0) flags.new.used p.cutting clear.0 flags.auto.used flags.ensures
     put.ensures (omega (arith, put.auto.to, clear.1.numbered)) put.auto.out p.room
 
 pub overflow_add-result : goal.overflow_add-result
@@ -79,7 +78,7 @@ overflow_add-result g c =
           let put = c.put_records-w in
           let expr = c.reproject_remainder in
           let clear = clear-rows g.row.N c.args.records.count c.requires.count_bound.0 in
-          frame-put p.frame c.requires.of_tree left (replicate g.row.N false) flags.new.used p.cutting clear.0 flags.auto.used flags.ensures
+          frame-put p.frame c.requires.of_tree left (replicate g.row.N 0) flags.new.used p.cutting clear.0 flags.auto.used flags.ensures
           put.ensures
           expr.new.out expr.result (omega (arith, put.auto.to, clear.1.numbered)) expr.ensures)).0,
     )
@@ -92,6 +91,6 @@ returns g c =
     let put = c.put_records-w in
     let expr = c.reproject_remainder in
     let clear = clear-rows g.row.N c.args.records.count c.requires.count_bound.0 in
-    frame-put frame c.requires.of_tree left (replicate g.row.N false) flags.new.used cutting clear.0 flags.auto.used flags.ensures
+    frame-put frame c.requires.of_tree left (replicate g.row.N 0) flags.new.used cutting clear.0 flags.auto.used flags.ensures
     put.ensures
     expr.new.out expr.result (omega (arith, put.auto.to, clear.1.numbered)) expr.ensures
