@@ -85,7 +85,7 @@ abbrev pub Each : (NodeRecord → Type 0) → List NodeRecord → Type 0
 Each P [] = Unit {0}
 Each P (r ∷ more) = P r × Each P more
 
-each-both : (P : NodeRecord → Type 0) (x y : List NodeRecord) → Each P x → Each P y → Each P (x ++ y)
+pub each-both : (P : NodeRecord → Type 0) (x y : List NodeRecord) → Each P x → Each P y → Each P (x ++ y)
 each-both P [] y a b = b
 each-both P (r ∷ x) y a b = (a.0, each-both P x y a.1 b)
 
@@ -122,7 +122,7 @@ module _ (P : NodeRecord → Type 0) (high : ℕ) (f : (at : ℕ) (t : Expr) →
         (each-row (at + length (expr_bytes t)) ts (omega (arith, k)))
 
 -- By its index.
-each-at : (P : NodeRecord → Type 0) (xs : List Lent) (i : ℕ) (l rest : List NodeRecord) → drop i (nodes_of xs) ≡ l ++ rest → Each P l
+pub each-at : (P : NodeRecord → Type 0) (xs : List Lent) (i : ℕ) (l rest : List NodeRecord) → drop i (nodes_of xs) ≡ l ++ rest → Each P l
     → (m : ℕ) → i ≤ m → m < i + length l → P (node_of (get_or xs m blank))
 each-at P xs i [] rest e all m low high = absurd (omega (arith, low, high))
 each-at P xs i (r ∷ l) rest e all m low high =

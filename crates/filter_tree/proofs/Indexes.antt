@@ -7,14 +7,15 @@ use lib.ListN.{length}
 use Rattle.definitions.specs.Words.Expression.{Expr, Exprs, nil, cons, count}
 use Rattle.definitions.specs.Bytes.Encode.{expr_bytes}
 use Rattle.definitions.specs.Bytes.Decode.{Columns}
-use Rattle.definitions.specs.Bytes.Good.{nodes as nodes_in}
+use Rattle.definitions.specs.Bytes.Good.{nodes as nodes_in, nodes_all}
 use Rattle.expression.specs.Nodes.{head_bytes, children_of, Stands, Spans, Row}
 use Rattle.expression.specs.Leaves.{Both, CallIs, OfCall}
 use Rattle.expression.specs.declared.leaves.Called.{Called}
 use Rattle.expression.proofs.OneTree.{of-trees}
 use Rattle.expression.proofs.Standing.{children-stand, first-stands, rest-stands}
 use Rattle.node_table.specs.declared.NodeRecord.{NodeRecord as Lent}
-use Rattle.filter_tree.specs.Trees.{Noded, NodedAll, Node, OfNode, Indexed}
+use Rattle.filter_tree.specs.Trees.{Noded, NodedAll, RowUpTo, Node, OfNode, Indexed}
+use Rattle.filter_tree.proofs.NodeLaws.{nodes-below}
 use Rattle.filter_tree.proofs.Scans.{noded-children}
 use Rattle.filter_tree.proofs.Children.{noded-first, noded-rest}
 
@@ -73,6 +74,15 @@ module _ {c : Columns} {s : List ℕ} {nodes : List Lent} {at i : ℕ} {t : Expr
   pub both-noded : {build : Expr → Expr → Expr} {first : ℕ} (b : Both build c s at first t)
       → NodedAll nodes first (i + 1) (cons b.l (cons b.r nil))
   both-noded {first = first} b = subst (NodedAll nodes first (i + 1)) b.children (noded-children h first (i + 1) b.begins refl)
+
+  module _ {build : Expr → Expr → Expr} {first past : ℕ} (b : Both build c s at first t) (ends : past ≡ i + nodes_in t) where
+    -- Where the node's records end, theirs do, and those of the second one.
+    pub both-up-to : RowUpTo nodes (i + 1) past
+    both-up-to = (first, b.l, cons b.r nil, both-noded b, omega (arith, ends, nodes-below t, ap nodes_all b.children))
+
+    pub second-up-to : {k : ℕ} → k ≡ i + 1 + nodes_in b.l → past ≡ k + nodes_in b.r
+    unfolding nodes_all
+    second-up-to e = omega (arith, ends, e, nodes-below t, ap nodes_all b.children)
 
   -- The arguments of a function that was found.
   pub arguments-noded : {k : Called} (b : CallIs c s at k t) → NodedAll nodes k.first (i + 1) b.arguments

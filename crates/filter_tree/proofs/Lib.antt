@@ -1,6 +1,7 @@
 -- Laws that the proofs use.
 pub mod Scans
 pub mod Children
+pub mod Halving
 pub mod Fields
 pub mod Parents
 pub mod Spining

@@ -2,7 +2,7 @@
 use Rattle.std.specs.Prelude.{ℕ, ◌+◌, ◌≤◌, ◌≡◌, List, [], ◌∷◌, ◌++◌, length, take, drop, ltb, eqb, if◌then◌else◌}
 use Rattle.definitions.specs.Words.Expression.{Expr, Exprs, nil, cons, and}
 use Rattle.definitions.specs.Bytes.Encode.{expr_bytes, exprs_bytes}
-use Rattle.definitions.specs.Bytes.Good.{nodes}
+use Rattle.definitions.specs.Bytes.Good.{nodes, nodes_all}
 use Rattle.definitions.specs.Words.Leaves.{leaves}
 use Rattle.definitions.specs.Bytes.NodeTable.{NodeRecord, nodes_from, row_from}
 use Rattle.definitions.specs.Bytes.Decode.{Columns}
@@ -65,6 +65,11 @@ TreePair s nodes i =
 abbrev pub OfTreePair : List ℕ → List Lent → (i : ℕ) → (Columns → Expr → Expr → Type 0) → Type 0
 OfTreePair s nodes i P =
     (c : Columns) (at : ℕ) (l r : Expr) → Row c s at 2 (cons l (cons r nil)) → NodedAll nodes at i (cons l (cons r nil)) → P c l r
+
+-- The records from one index up to another are those of several expressions in a row, of which the first has the first index.
+abbrev pub RowUpTo : List Lent → (i past : ℕ) → Type 0
+RowUpTo nodes i past =
+    (at : ℕ) × (t : Expr) × (more : Exprs) × NodedAll nodes at i (cons t more) × (past ≡ i + nodes_all (cons t more))
 
 -- The records of two expressions, and perhaps more after them.
 abbrev pub Begin : (nodes : List Lent) (at i : ℕ) (a b : Expr) → Type 0

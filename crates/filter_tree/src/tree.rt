@@ -5,7 +5,7 @@ ghost use Rattle.std.specs.Prelude.{◌≡◌, ◌+◌, length};
 ghost use Rattle.definitions.specs.Bytes.Encode.{expr_bytes};
 ghost use Rattle.definitions.specs.Bytes.Good.{nodes};
 ghost use Rattle.filter_tree.specs.Columns.{columns_left, OfColumns, OfFields};
-ghost use Rattle.filter_tree.specs.Trees.{Node, OfNode, IsLeaf, AboveIs};
+ghost use Rattle.filter_tree.specs.Trees.{Node, OfNode, RowUpTo, IsLeaf, AboveIs};
 
 use expression::kinds;
 use node_table::NodeRecord;
@@ -74,6 +74,26 @@ impl<'a> Tree<'a> {
             k += 1;
         }
         k
+    }
+
+    // The same for a node that is the first of several in a row, whose records end before `past`. What is below the node starts before
+    // its end, and what comes after it does not: the range is halved until one index is left.
+    pub fn after_within(self, i: usize, past: usize) -> usize
+        requires { RowUpTo self.nodes.now i past }
+        ensures { OfNode self.entry.nodes.now i (λ at t. result ≡ i + nodes t) }
+    {
+        let end = self.nodes[i].end;
+        let mut low = i + 1;
+        let mut high = past;
+        while low < high {
+            let middle = low + (high - low) / 2;
+            if self.nodes[middle].start < end {
+                low = middle + 1;
+            } else {
+                high = middle;
+            }
+        }
+        low
     }
 
     // The places of the columns of the node of an index.
