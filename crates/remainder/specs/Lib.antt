@@ -8,3 +8,4 @@ pub mod Rests
 pub mod HeldIndexes
 pub mod Pruned
 pub mod Last
+pub mod Parts

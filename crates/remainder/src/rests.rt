@@ -1,9 +1,11 @@
 // What stays of a filter without some of its AND-leaves, written from its end to its start: the head of an And is written once it is
 // known that both of its sides stay.
-ghost use Rattle.std.specs.Prelude.{◌≤◌, ◌≡◌, [], ◌∷◌, length};
+ghost use Rattle.std.specs.Prelude.{◌≤◌, ◌≡◌, ◌+◌, [], ◌∷◌, length};
 ghost use Rattle.definitions.specs.Words.Leaves.{leaves};
 ghost use Rattle.expression.specs.Nodes.{OfTree};
-ghost use Rattle.filter_tree.specs.Trees.{Noded};
+ghost use Rattle.definitions.specs.Bytes.Good.{nodes};
+ghost use Rattle.filter_tree.specs.Trees.{Noded, OfNode};
+ghost use Rattle.remainder.specs.Parts.{PartIs, SidesAre};
 ghost use Rattle.remainder.specs.Rests.{RestFits, RestPut, AndPut};
 
 use byte_writer::copies::copy_at;
@@ -23,6 +25,14 @@ pub struct Stays {
 pub struct Place {
     pub at: usize,
     pub index: usize,
+}
+
+// The same, and the index past all that is below the node, where that is known.
+#[derive(Clone, Copy)]
+struct Part {
+    at: usize,
+    index: usize,
+    past: Option<usize>,
 }
 
 // An AND-leaf, unless its flag says that it goes. Flags are bytes, so that what is said of bytes that stand somewhere holds of them.
@@ -70,6 +80,47 @@ fn put_and_head(out: &mut [u8], left: Stays, middle: usize, end: usize) -> Stays
     }
 }
 
+// The index of the right side of an And, of which the left one has index `left`. Along the right sides from the root on no end is known,
+// and each scan passes a left side that no other does; below these the range is halved.
+fn right_index(tree: Tree, left: usize, past: Option<usize>) -> usize
+    requires { SidesAre tree.nodes.now left past }
+    ensures { OfNode tree.entry.nodes.now left (λ at t. result ≡ left + nodes t) }
+{
+    match past {
+        Some(past) => tree.after_within(left, past),
+        None => tree.after(left),
+    }
+}
+
+// What stays of a part. The records of an And's right side end where the And's do, those of the left one where the right one begins.
+fn put_part(out: &mut [u8], end: usize, tree: Tree, part: Part, gone: &[u8], after: usize) -> Stays
+    requires rest_fits { RestFits tree.bytes.now part.at end after gone.now out.old }
+    requires of_tree { OfTree tree.bytes.now part.at
+        (PartIs tree.nodes.now part.at part.index part.past) }
+    ensures { OfTree tree.entry.bytes.now part.at
+        (RestPut end after gone.now out.old out.new result) }
+{
+    let Part { at, index, past } = part;
+    let Node::And(left) = node_at(tree.bytes, at) else {
+        return put_leaf(out, end, tree, Place { at, index }, gone, after);
+    };
+    let below = index + 1;
+    let next = right_index(tree, below, past);
+    let behind = Part {
+        at: tree.end(below),
+        index: next,
+        past,
+    };
+    let right = put_part(out, end, tree, behind, gone, after);
+    let before = Part {
+        at: left,
+        index: below,
+        past: Some(next),
+    };
+    let first = put_part(out, right.start, tree, before, gone, right.leaf);
+    put_and_head(out, first, right.start, end)
+}
+
 // What stays of the expression at a place, written so that it ends at `end`; `after` AND-leaves are up to the expression's end, and a
 // flag of each says whether it goes.
 pub fn put_rest(
@@ -85,16 +136,10 @@ pub fn put_rest(
     ensures { OfTree tree.entry.bytes.now place.at
         (RestPut end after gone.now out.old out.new result) }
 {
-    let Node::And(left) = node_at(tree.bytes, place.at) else {
-        return put_leaf(out, end, tree, place, gone, after);
+    let part = Part {
+        at: place.at,
+        index: place.index,
+        past: None,
     };
-    let index = place.index + 1;
-    let behind = Place {
-        at: tree.end(index),
-        index: tree.after(index),
-    };
-    let right = put_rest(out, end, tree, behind, gone, after);
-    let before = Place { at: left, index };
-    let first = put_rest(out, right.start, tree, before, gone, right.leaf);
-    put_and_head(out, first, right.start, end)
+    put_part(out, end, tree, part, gone, after)
 }

@@ -1,12 +1,13 @@
--- What the calls of `put_rest` require, by the And that was found.
+-- What the calls of `put_part` require, by the And that was found.
+use Rattle.std.specs.Prelude.{Option, Some, None, IfSome}
 use Prim.Native.Nat.{ℕ, ◌+◌, ◌≤◌}
 use native.Mathlib.Omega.{arith}
-use mathlib.Core.Path.{◌≡◌, refl, ap, ◌∙◌, subst, subst⁻¹}
+use mathlib.Core.Path.{◌≡◌, refl, ap, ◌∙◌, subst⁻¹}
 use mathlib.Core.List.{List, [], ◌∷◌}
 use lib.ListN.{length, length-append}
 use types.Run.{OneOf, miss}
 use denote.Enum.Declared.{tag_of}
-use Rattle.definitions.specs.Words.Expression.{Expr, and, nil, cons}
+use Rattle.definitions.specs.Words.Expression.{Expr, and}
 use Rattle.definitions.specs.Bytes.Encode.{expr_bytes}
 use Rattle.definitions.specs.Words.Leaves.{leaves}
 use Rattle.definitions.specs.Bytes.Decode.{Columns}
@@ -19,11 +20,16 @@ use Rattle.expression.specs.contracts.leaves.Node.{the_type}
 use Rattle.expression.proofs.AndLeaves.{plain-leaf}
 use Rattle.expression.proofs.Standing.{first-stands, rest-stands}
 use Rattle.node_table.specs.declared.NodeRecord.{NodeRecord as Lent}
-use Rattle.filter_tree.specs.Trees.{Noded, NodedAll}
-use Rattle.filter_tree.proofs.Scans.{noded-children}
+use Rattle.filter_tree.specs.Trees.{Noded}
 use Rattle.filter_tree.proofs.Children.{noded-first, noded-rest}
+use Rattle.filter_tree.proofs.Indexes.{both-noded}
 use Rattle.remainder.specs.Rests.{RestFits, RestPut}
 use Rattle.remainder.specs.declared.rests.Stays.{Stays}
+
+-- What is known of an index where there is one.
+pub known : {P Q : ℕ → Type 0} (o : Option ℕ) → ((p : ℕ) → P p → Q p) → IfSome o P → IfSome o Q
+known (Some p) f h = f p h
+known None f h = h
 
 -- Any node but And is an AND-leaf.
 pub lone-leaf : (c : Columns) (s : List ℕ) (at : ℕ) (t : Expr) (r : Node) → OneOf (1 ∷ 2 ∷ 3 ∷ []) (tag_of the_type r) → NodeIs c s at r t
@@ -48,15 +54,12 @@ module _ {c : Columns} {s : List ℕ} {at left : ℕ} {t : Expr} (b : Both and c
   unfolding head_bytes
   left_after = b.begins ∙ ap (λ (u : Expr). at + length (head_bytes u)) b.is
 
-  module _ {nodes : List Lent} {i : ℕ} (h : Noded nodes at i t) where
-    side-nodes : NodedAll nodes left (i + 1) (cons b.l (cons b.r nil))
-    side-nodes = subst (NodedAll nodes left (i + 1)) b.children (noded-children h left (i + 1) b.begins refl)
+  pub left-at : {nodes : List Lent} {i : ℕ} → Noded nodes at i t → Noded nodes left (i + 1) b.l
+  left-at h = noded-first (both-noded h b)
 
-    pub left-at : Noded nodes left (i + 1) b.l
-    left-at = noded-first side-nodes
-
-    pub right-at-index : (p k : ℕ) → p ≡ left + length (expr_bytes b.l) → k ≡ i + 1 + nodes_in b.l → Noded nodes p k b.r
-    right-at-index p k e f = noded-first (noded-rest side-nodes p k e f)
+  pub right-noded : {nodes : List Lent} {i : ℕ} → Noded nodes at i t → (p k : ℕ) → p ≡ left + length (expr_bytes b.l)
+      → k ≡ i + 1 + nodes_in b.l → Noded nodes p k b.r
+  right-noded h p k e f = noded-first (noded-rest (both-noded h b) p k e f)
 
   pub right-stands : (p : ℕ) → p ≡ left + length (expr_bytes b.l) → Stands c s p b.r
   right-stands p e = first-stands (rest-stands b.row p 1 e refl)
