@@ -1,6 +1,7 @@
--- What each return of `first_match` answers, and what its calls require.
+-- What each return of `match_or_pass` answers, and what its calls require.
 use Rattle.std.specs.Prelude.{Err}
 use Rattle.std.specs.ControlFlow.{break_value}
+use Rattle.std.specs.declared.ops.ControlFlow.{ControlFlow}
 use Rattle.std.specs.declared.ops.ControlFlow.TheVariants.{Continue, Break}
 use Prim.Native.Nat.{ℕ, ◌+◌, ◌-◌, ◌≤◌, ◌<◌}
 use native.Mathlib.Nat.{zero-add}
@@ -36,12 +37,13 @@ use Rattle.leaf_matching.specs.Matches.{Lacks, Matches, MatchingIs}
 use Rattle.leaf_matching.specs.declared.matching.NoMatch.{NoMatch}
 use Rattle.leaf_matching.specs.declared.matching.NoMatch.TheVariants.{Unmatched, NotAsked}
 use Rattle.leaf_matching.proofs.Asked.{none-lacks}
-use Rattle.leaf_pick.specs.Picks.{wants, matches, FirstIs, NothingIs, Found, FoundIs, TakenIs, PickedIs}
+use Rattle.leaf_pick.specs.Picks.{wants, matches, FirstIs, NothingIs, Found, FoundIs, FoundOrPassed, TakenIs, PickedIs}
 use Rattle.expression.specs.Cuts.{CutAt, here, in_left, in_right}
 use Rattle.sedona_query_planner.specs.declared.spatial_predicate.SpatialPredicate.{SpatialPredicate}
 use Rattle.leaf_pick.specs.declared.first_match.Wanted.{Wanted}
 use Rattle.leaf_pick.specs.declared.first_match.Wanted.TheVariants.{Other}
 use Rattle.leaf_pick.specs.declared.first_match.Pick.{Pick}
+use Rattle.leaf_pick.specs.declared.first_match.Passed.{Passed}
 use Rattle.leaf_pick.specs.declared.first_match.Stop.{Stop}
 use Rattle.leaf_pick.proofs.PickLaws.{at_position, pick_other, first-append, first-match, first-lacks}
 
@@ -187,6 +189,10 @@ module _ {s : List ℕ} {rec at left : ℕ} {found : Node} (is : OfTreeIn s at (
             counted = simp length-append (omega (arith, n.counted, f.counted));
           })
 
+both-nodes : (l r : Expr) → nodes_in (and l r) ≡ 1 + nodes_in l + nodes_in r
+unfolding nodes_in
+both-nodes l r = omega arith
+
 -- What the loop along the right children keeps: what is found from the node that it came to is found from the first.
 pub record Along (match : Matcher) (wanted : Wanted) (s : List ℕ) (nodes : List Lent) (rec : ℕ) (from : Stop) (parent : ℕ) (stop : Stop)
     (above : ℕ) : Type 0 where
@@ -194,8 +200,8 @@ pub record Along (match : Matcher) (wanted : Wanted) (s : List ℕ) (nodes : Lis
   pub noded : OfTree s stop.at (Noded nodes stop.at stop.index)
   pub low : from.at ≤ stop.at
   pub few : stop.position ≤ stop.at
-  pub rest : (r : Found) → OfFrame s rec stop.at (FoundIs match wanted s stop.at stop.position above r)
-      → OfFrame s rec from.at (FoundIs match wanted s from.at from.position parent r)
+  pub rest : (r : ControlFlow Pick Passed) → OfFrame s rec stop.at (FoundOrPassed match wanted s stop above r)
+      → OfFrame s rec from.at (FoundOrPassed match wanted s from parent r)
 
 module _ {match : Matcher} {wanted : Wanted} {s : List ℕ} {nodes : List Lent} {rec : ℕ} {from : Stop} {parent : ℕ} where
   pub along-begins : Framed s rec from.at → OfTree s from.at (Noded nodes from.at from.index) → from.position ≤ from.at
@@ -205,6 +211,21 @@ module _ {match : Matcher} {wanted : Wanted} {s : List ℕ} {nodes : List Lent} 
   module _ {stop : Stop} {above : ℕ} (inv : Along match wanted s nodes rec from parent stop above) where
     pub along-within : stop.index < length nodes
     along-within = noded-within (inv.noded _ _ inv.there.2.tree)
+
+    pub stop-node : Within nodes stop.index
+    stop-node = (_, _, inv.noded _ _ inv.there.2.tree)
+
+    -- A leaf is taken, or passed.
+    pub along-taken : {p : Pick} → OfFrame s rec stop.at (FirstIs match wanted s stop.at stop.position above p)
+        → OfFrame s rec from.at (FirstIs match wanted s from.at from.position parent p)
+    along-taken {p} is = inv.rest (Break p) is
+
+    pub along-passed : {position after : ℕ} → OfFrame s rec stop.at (NothingIs match wanted stop.position position)
+        → OfNode nodes stop.index (λ at t. after ≡ stop.index + nodes_in t)
+        → OfFrame s rec from.at (FoundOrPassed match wanted s from parent (Continue (record { position = position; after = after })))
+    along-passed nothing after =
+        inv.rest (Continue (record { position = _; after = _ }))
+        (λ records t over. (nothing records t over, after stop.at t (inv.noded _ t over.tree)))
 
     module _ {left : ℕ} {found : Node} (is : OfTreeIn s stop.at (λ c t. NodeIs c s stop.at found t)) (told : found ≡ node.And left) where
       its-both : Both and (index_below (length inv.there.0)) s stop.at left inv.there.1
@@ -225,36 +246,65 @@ module _ {match : Matcher} {wanted : Wanted} {s : List ℕ} {nodes : List Lent} 
             (left-framed is told inv.there, omega (arith, after, inv.few)),
           )
 
+      -- Where the left side is passed from.
+      abbrev pub left_stop : Stop
+      left_stop = record { at = left; index = stop.index + 1; position = stop.position }
+
       pub along-left : {p : Pick} → OfFrame s rec left (FirstIs match wanted s left stop.position stop.at p)
           → OfFrame s rec from.at (FirstIs match wanted s from.at from.position parent p)
       along-left {p} inner = inv.rest (Break p) (match-left is told inner)
 
-      module _ {right counted : ℕ} (inner : OfFrame s rec left (NothingIs match wanted stop.position counted))
+      module _ {right : ℕ} {passed : Passed}
+          (inner : OfFrame s rec left (FoundOrPassed match wanted s left_stop stop.at (Continue passed)))
           (ends : OfNode nodes (stop.index + 1) (λ at t. right ≡ at + length (expr_bytes t)))
         where
+          nothing : OfFrame s rec left (NothingIs match wanted stop.position passed.position)
+          nothing records t over = (inner records t over).0
+
           left-ends : OfTree s left (λ l. right ≡ left + length (expr_bytes l))
           left-ends d l stands = ends left l (along-noded d l stands)
 
-          after-left : Framed s rec right × (stop.at < right) × (counted ≤ right)
-          after-left = right-framed is told inner left-ends inv.there inv.few
+          after-left : Framed s rec right × (stop.at < right) × (passed.position ≤ right)
+          after-left = right-framed is told nothing left-ends inv.there inv.few
 
           pub along-less : length s - right < length s - stop.at
           along-less = omega (arith, after-left.1, node-some inv.there.2.tree)
 
-          pub along-right : (k : ℕ) → OfNode nodes (stop.index + 1) (λ at t. k ≡ stop.index + 1 + nodes_in t)
-              → Along match wanted s nodes rec from parent
-              (record { at = right; index = k; position = counted }) stop.at
-          along-right k after =
+          -- The right side, from where the left one ends.
+          abbrev pub right_stop : Stop
+          right_stop = record { at = right; index = passed.after; position = passed.position }
+
+          passed-on : (r : ControlFlow Pick Passed) → OfFrame s rec right (FoundOrPassed match wanted s right_stop stop.at r)
+              → OfFrame s rec stop.at (FoundOrPassed match wanted s stop above r)
+          passed-on (Break p) outer records t over = match-right is told nothing left-ends above (Break p) outer records t over
+          passed-on (Continue x) outer records t over =
+              let c : Children s rec stop.at left records t = its-children is told over in
+              let e : right ≡ left + length (expr_bytes c.l) = left-ends _ c.l c.first.tree in (
+                match-right is told nothing left-ends above (Continue x.position) (λ records t over. (outer records t over).0)
+                    records t over,
+                omega (
+                  arith,
+                  (outer records c.r (c.second right e)).1,
+                  (inner records c.l c.first).1,
+                  ap nodes_in c.is,
+                  both-nodes c.l c.r,
+                ),
+              )
+
+          pub along-right : Along match wanted s nodes rec from parent right_stop stop.at
+          unfolding its-both its-children
+          along-right =
               let b = its-both in
               let h = inv.noded _ _ inv.there.2.tree in
+              let c = its-children is told inv.there.2 in
               let e : right ≡ left + length (expr_bytes b.l) = left-ends _ b.l (first-stands b.row) in
               record {
                 there = after-left.0;
-                noded = of_tree (Noded nodes right k) (first-stands (rest-stands b.row right 1 e refl))
-                    (noded-first (noded-rest (both-noded h b) right k e (after left b.l (noded-first (both-noded h b)))));
+                noded = of_tree (Noded nodes right passed.after) (first-stands (rest-stands b.row right 1 e refl))
+                    (noded-first (noded-rest (both-noded h b) right passed.after e (inner inv.there.0 c.l c.first).1));
                 low = omega (arith, inv.low, after-left.1);
                 few = after-left.2;
-                rest = λ r outer. inv.rest r (match-right is told inner left-ends above r outer);
+                rest = λ r outer. inv.rest r (passed-on r outer);
               }
 
 -- ---- two passes

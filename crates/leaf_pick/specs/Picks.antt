@@ -5,6 +5,7 @@ use Rattle.std.specs.declared.ops.ControlFlow.TheVariants.{Continue, Break}
 use Rattle.std.proofs.Math.Option as optional
 use Rattle.definitions.specs.Words.Expression.{Expr, Record, Predicate}
 use Rattle.definitions.specs.Words.Leaves.{leaves}
+use Rattle.definitions.specs.Bytes.Good.{nodes}
 use Rattle.definitions.specs.Filter.Extract as definition
 use Rattle.definitions.specs.Filter.Extract.{is_knn, first_match, Matcher, matches_by}
 use Rattle.expression.specs.Nodes.{OfTree, OfTreeIn}
@@ -20,6 +21,8 @@ use Rattle.leaf_pick.specs.declared.first_match.Wanted.{Wanted}
 use Rattle.leaf_pick.specs.declared.first_match.Wanted.TheVariants.{Knn, Other}
 use Rattle.leaf_pick.specs.declared.first_match.Leaf.{Leaf}
 use Rattle.leaf_pick.specs.declared.first_match.Pick.{Pick}
+use Rattle.leaf_pick.specs.declared.first_match.Passed.{Passed}
+use Rattle.leaf_pick.specs.declared.first_match.Stop.{Stop}
 
 -- ---- which matches a pass is for
 
@@ -76,6 +79,13 @@ Found = ControlFlow Pick ℕ
 abbrev pub FoundIs : Matcher → Wanted → (s : List ℕ) (at before up : ℕ) → Found → (records : List Record) → Expr → Type 0
 FoundIs match wanted s at before up (Break p) records t = FirstIs match wanted s at before up p records t
 FoundIs match wanted s at before up (Continue count) records t = NothingIs match wanted before count records t
+
+-- What a walk from a stop found: a pick, or how many AND-leaves there are and the index after the node.
+abbrev pub FoundOrPassed : Matcher → Wanted → (s : List ℕ) (from : Stop) (up : ℕ) → ControlFlow Pick Passed → (records : List Record)
+    → Expr → Type 0
+FoundOrPassed match wanted s from up (Break p) records t = FirstIs match wanted s from.at from.position up p records t
+FoundOrPassed match wanted s from up (Continue passed) records t =
+    NothingIs match wanted from.position passed.position records t × (passed.after ≡ from.index + nodes t)
 
 -- The definitions' pick, with its place; the root is its own parent.
 pub record TakenIs (match : Matcher) (s : List ℕ) (at : ℕ) (p : Pick) (records : List Record) (t : Expr) : Type 0 where

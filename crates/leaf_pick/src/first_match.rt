@@ -8,7 +8,7 @@ ghost use Rattle.leaf_matching.specs.Frames.{Framed, OfFrame};
 ghost use Rattle.filter_tree.specs.Trees.{Noded};
 ghost use Rattle.leaf_matching.specs.Matches.{LeafMatching};
 ghost use Rattle.terms.specs.Settings.{settings_of};
-ghost use Rattle.leaf_pick.specs.Picks.{is_other, wants, LeafThere, LeafMatched, FoundIs};
+ghost use Rattle.leaf_pick.specs.Picks.{is_other, wants, LeafThere, LeafMatched, FoundIs, FoundOrPassed};
 
 use expression::cuts::Cut;
 use expression::leaves::{Node, node_at};
@@ -140,22 +140,32 @@ pub fn leaf_match(filter: Filter, leaf: Leaf, pass: Pass, parent: usize) -> Foun
     }
 }
 
-// The first match that is wanted below a node; `parent` is where the And above it stands. A turn goes from an And to its right side: no
-// range has those, and a call for each would take its room on the stack.
-pub fn first_match(filter: Filter, pass: Pass, from: Stop, parent: usize) -> Found
+// What was passed below a node where nothing was found: how many AND-leaves there are up to its end, and the index after it.
+#[derive(Clone, Copy)]
+struct Passed {
+    position: usize,
+    after: usize,
+}
+
+// The first match that is wanted below a node; `parent` is where the And above it stands. Where there is none it says where the node
+// ends, so that no record is passed twice. A turn goes from an And to its right side: no range has those, and a call for each would take
+// its room on the stack.
+fn match_or_pass(filter: Filter, pass: Pass, from: Stop, parent: usize) -> ControlFlow<Pick, Passed>
     requires framed { Framed filter.tree.bytes.now filter.rec from.at }
     requires of_tree { OfTree filter.tree.bytes.now from.at (Noded filter.tree.nodes.now from.at from.index) }
     requires position_le_at { from.position ≤ from.at }
     ensures { OfFrame filter.entry.tree.bytes.now filter.entry.rec from.at
-        (FoundIs (match_under (settings_of pass.settings)) pass.wanted filter.entry.tree.bytes.now
-        from.at from.position parent result) }
+        (FoundOrPassed (match_under (settings_of pass.settings)) pass.wanted filter.entry.tree.bytes.now
+        from parent result) }
 {
     let mut stop = from;
     let mut above = parent;
     loop {
         let node = node_at(filter.tree.bytes, stop.at);
         let Node::And(left) = node else {
-            return leaf_match(filter, Leaf { stop, node }, pass, above);
+            let position = leaf_match(filter, Leaf { stop, node }, pass, above)?;
+            let after = filter.tree.after(stop.index);
+            return ControlFlow::Continue(Passed { position, after });
         };
         above = stop.at;
         let below = stop.index + 1;
@@ -164,11 +174,24 @@ pub fn first_match(filter: Filter, pass: Pass, from: Stop, parent: usize) -> Fou
             index: below,
             position: stop.position,
         };
-        let position = first_match(filter, pass, first, above)?;
+        let passed = match_or_pass(filter, pass, first, above)?;
         stop = Stop {
             at: filter.tree.end(below),
-            index: filter.tree.after(below),
-            position,
+            index: passed.after,
+            position: passed.position,
         };
     }
+}
+
+// The first match that is wanted below a node, or how many AND-leaves there are up to its end.
+pub fn first_match(filter: Filter, pass: Pass, from: Stop, parent: usize) -> Found
+    requires framed { Framed filter.tree.bytes.now filter.rec from.at }
+    requires of_tree { OfTree filter.tree.bytes.now from.at (Noded filter.tree.nodes.now from.at from.index) }
+    requires position_le_at { from.position ≤ from.at }
+    ensures { OfFrame filter.entry.tree.bytes.now filter.entry.rec from.at
+        (FoundIs (match_under (settings_of pass.settings)) pass.wanted filter.entry.tree.bytes.now
+        from.at from.position parent result) }
+{
+    let passed = match_or_pass(filter, pass, from, parent)?;
+    ControlFlow::Continue(passed.position)
 }

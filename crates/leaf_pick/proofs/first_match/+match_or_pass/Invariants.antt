@@ -1,4 +1,4 @@
--- `first_match`: in an And, what the left side finds comes first, and the loop goes on with the right side, where the left one
+-- `match_or_pass`: in an And, what the left side finds comes first, and the loop goes on with the right side, where the left one
 -- ends.
 -- A call goes to a place further on, so the measure is the bytes left.
 use lib.ListN.{length}
@@ -6,7 +6,7 @@ use Rattle.definitions.specs.Filter.Settings.{match_under}
 use Rattle.terms.specs.Settings.{settings_of}
 use Rattle.leaf_pick.proofs.FirstLaws.{Along}
 use Prim.Native.Nat.{◌-◌}
-use Rattle.leaf_pick.proofs.first_match.+first_match.Given as goal
+use Rattle.leaf_pick.proofs.first_match.+match_or_pass.Given as goal
 
 abbrev pub invariant-loop-left : goal.invariant-loop-left
 invariant-loop-left l =
@@ -18,6 +18,6 @@ abbrev pub decreases-loop-left : goal.decreases-loop-left
 decreases-loop-left l =
     length l.filter.tree.bytes.now - l.stop.at
 
-abbrev pub decreases-first_match : goal.decreases-first_match
-decreases-first_match l =
+abbrev pub decreases-match_or_pass : goal.decreases-match_or_pass
+decreases-match_or_pass l =
     length l.filter.tree.bytes.now - l.from.at
