@@ -11,6 +11,7 @@ use super::given::Frames;
 use super::held_frame::merge_held;
 use super::merged_nodes::{TwoRows, put_joined};
 use call_answers::answers::Loaded;
+use filter_tree::lengths::MOST_NODES;
 use filter_tree::tree::Tree;
 use frame_reader::frame_bodies::FrameTree;
 use frame_reader::frames::physical_frame_in;
@@ -93,4 +94,17 @@ pub fn merge_row<const N: usize>(
         nodes: &records[..parts.nodes],
     };
     merge_good::<N>(row, plan, n, scratch, FrameTree { parts, tree }, held)
+}
+
+// The same with a row of its own, which is long enough for every frame.
+pub fn merge(
+    plan: &mut [u8],
+    n: usize,
+    scratch: &mut [u8],
+    frame: &[u8],
+    held: usize,
+) -> Result<Loaded, Refusal>
+    ensures { MergedIs frame.now n plan.old scratch.old plan.new scratch.new held result }
+{
+    merge_row::<MOST_NODES>(&mut [NO_RECORD; MOST_NODES], plan, n, scratch, frame, held)
 }

@@ -5,11 +5,11 @@ ghost use Rattle.node_table.specs.Records.{RowHas};
 ghost use Rattle.host_calls.specs.Cores.{MergeLeft};
 
 use super::cores::{HostLoaded, left_by};
-use call_merge::call::merge_row;
+use call_merge::call::{merge, merge_row};
 use node_table::NodeRecord;
 
 // The new plan's nodes are then the row's first.
-pub fn merge_core<const N: usize>(
+pub fn merge_row_core<const N: usize>(
     row: &mut [NodeRecord],
     frame: &[u8],
     plan: &mut [u8],
@@ -23,4 +23,17 @@ pub fn merge_core<const N: usize>(
         × RowHas plan.new result.root result.count row.new }
 {
     left_by(merge_row::<N>(row, plan, n, scratch, frame, held))
+}
+
+// The same without a row.
+pub fn merge_core(
+    frame: &[u8],
+    plan: &mut [u8],
+    n: usize,
+    scratch: &mut [u8],
+    held: usize,
+) -> HostLoaded
+    ensures { MergeLeft frame.now n plan.old scratch.old plan.new scratch.new held result }
+{
+    left_by(merge(plan, n, scratch, frame, held))
 }

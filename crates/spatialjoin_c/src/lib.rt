@@ -26,7 +26,7 @@ use host_calls::extract::extract_number;
 use host_calls::extract_all::all_number;
 use host_calls::load::load_core;
 use host_calls::logical::logical_number;
-use host_calls::merge::merge_core;
+use host_calls::merge::merge_row_core;
 use host_calls::print::print_number;
 use host_calls::project::project_number;
 use host_calls::put::put_call_number;
@@ -119,7 +119,7 @@ fn merge_by<const N: usize>(
         (nodes_of table.old)) plan.new scratch.new (nodes_of table.new) result }
 {
     let mut row = [NO_RECORD; N];
-    let merged = merge_core::<N>(&mut row, frame, plan, n, scratch, table.len());
+    let merged = merge_row_core::<N>(&mut row, frame, plan, n, scratch, table.len());
     put_nodes(table, &row[..merged.count]);
     merged.answer
 }

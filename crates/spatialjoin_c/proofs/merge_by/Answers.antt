@@ -12,7 +12,7 @@ use Rattle.spatialjoin_c.proofs.merge_by.Goals as goal
 
 pub put_nodes-requires : goal.put_nodes-requires
 put_nodes-requires g c =
-    let core = c.merge_core-merged in
+    let core = c.merge_row_core-merged in
     omega (
       arith,
       length-take-le core.result.count core.new.row core.ensures.1.0,
@@ -21,7 +21,7 @@ put_nodes-requires g c =
 
 pub returns : goal.returns
 returns g c =
-    let core = c.merge_core-merged in
+    let core = c.merge_row_core-merged in
     let fits : SFits w64 core.result.answer = search rules in
     simp to_z-of_z (merge-fills _ _ _ _ _ _ core.result c.args.table.now (length-map c.args.table.now node_of) core.ensures.0 _ _
     core.ensures.1 c.put_nodes.ensures)
