@@ -9,7 +9,19 @@ pub fn copy_bytes(out: &mut [u8], src: &[u8], from: usize, n: usize)
     requires out_has_room { n ≤ length out.old }
     ensures { out.new ≡ take n (drop from src.now) ++ drop n out.old }
 {
-    out[..n].copy_from_slice(&src[from..from + n]);
+    for i in 0..n {
+        out[i] = src[from + i];
+    }
+}
+
+// Copies all bytes of `src` over `out`, which is as long and may be seen to lie apart from it, as a row of the caller's own. Never inlined:
+// where a compiler sees that, it makes of the loop a call of C's memcpy or memmove, a name that the library would need from its host.
+#[inline(never)]
+pub fn copy_apart(out: &mut [u8], src: &[u8])
+    requires { length out.old ≡ length src.now }
+    ensures { out.new ≡ src.now }
+{
+    copy_bytes(out, src, 0, src.len());
 }
 
 // Copies the bytes from one place up to another to `out` from w on; answers where they end.

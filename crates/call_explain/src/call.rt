@@ -5,7 +5,7 @@ ghost use Rattle.definitions.specs.Calls.Explain as definitions;
 ghost use Rattle.terms.specs.Settings.{settings_of};
 ghost use Rattle.call_explain.specs.Answers.{ExplainedIs};
 
-use byte_writer::copies::copy_bytes;
+use byte_writer::copies::copy_apart;
 use filter_tree::lengths::{MIDDLE_BYTES, MIDDLE_NODES, MOST_NODES, SHORT_BYTES, SHORT_NODES};
 use filter_tree::tree::Tree;
 use frame_reader::frames::physical_frame_in;
@@ -44,7 +44,7 @@ fn explain_by<const NODES: usize>(
     if out.len() < count {
         return Err(Refusal::BufferTooShort);
     }
-    copy_bytes(out, &verdicts, 0, count);
+    copy_apart(&mut out[..count], &verdicts[..count]);
     Ok(Explained {
         count,
         taken: named_by(&verdicts[..count]),

@@ -6,7 +6,7 @@ ghost use Rattle.terms.specs.Settings.{settings_of};
 ghost use Rattle.call_extract_all.specs.AllAnswers.{AllOutcomeIs};
 
 use super::conjuncts::{Taken, put_all};
-use byte_writer::copies::copy_bytes;
+use byte_writer::copies::copy_apart;
 use filter_tree::lengths::{
     LONG_BYTES, MIDDLE_BYTES, MIDDLE_NODES, MOST_BYTES, MOST_NODES, SHORT_BYTES, SHORT_NODES,
 };
@@ -46,7 +46,7 @@ fn extract_all_by<const BYTES: usize, const NODES: usize>(
     if out.len() < taken.length {
         return Err(Refusal::BufferTooShort);
     }
-    copy_bytes(out, &own, 0, taken.length);
+    copy_apart(&mut out[..taken.length], &own[..taken.length]);
     Ok(taken)
 }
 

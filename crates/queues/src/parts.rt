@@ -5,6 +5,7 @@ ghost use Rattle.queues.specs.Outcomes.{queue_is};
 ghost use Rattle.queues.specs.Parts.{HasRoom, FrameAdded, HasNext, FrameMoved, HasFirst, FirstTaken};
 
 use crate::answers::Queue;
+use byte_writer::copies::copy_apart;
 use byte_writer::numbers::put_number;
 use expression::fields::short_at;
 
@@ -47,7 +48,7 @@ pub(crate) fn add_frame(part: &mut [u8], count: usize, frame: &[u8])
     let n = frame.len();
     put_number(part, LENGTHS + 2 * count, 2, n);
     let place = PLACES + LONGEST * count;
-    part[place..place + n].copy_from_slice(frame);
+    copy_apart(&mut part[place..place + n], frame);
     part[0] = (count + 1) as u8;
 }
 
@@ -60,7 +61,7 @@ fn move_frame(part: &mut [u8], k: usize)
     put_number(part, LENGTHS + 2 * k, 2, n);
     let to = PLACES + LONGEST * k;
     let (front, back) = part.split_at_mut(to + LONGEST);
-    front[to..to + n].copy_from_slice(&back[..n]);
+    copy_apart(&mut front[to..to + n], &back[..n]);
 }
 
 // Takes the oldest frame out: moves the later ones down by one place.

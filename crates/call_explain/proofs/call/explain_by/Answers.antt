@@ -1,6 +1,8 @@
 -- `explain_by`: a refused frame has its own refusal; of a good one, whose nodes are in the row, the verdicts that were written are copied.
 use native.Mathlib.Omega.{arith}
-use mathlib.Core.Path.{refl}
+use mathlib.Core.Path.{refl, ap}
+use mathlib.Core.List.{◌++◌}
+use lib.ListN.{drop}
 use Rattle.node_reader.proofs.Reading.{kept}
 use Rattle.call_explain.proofs.call.Explaining.{explain-refused, too_short, copied, read-laid, read-within, few-leaves}
 use Rattle.call_explain.proofs.call.explain_by.Goals as goal
@@ -29,15 +31,14 @@ returns-then-out-count g c =
 pub returns : goal.returns
 returns g c =
     let h = c.in_ok-parts.ensures in
+    let count = c.put_verdicts-count.result in
     copied _ c.args.settings.good.good _ _ h.0 h.2 (c.put_verdicts-count.ensures _ h.0.records h.0.expr (read-laid _ _ h))
-    c.if-out-count.false _ c.copy_bytes.ensures _ refl c.named_by.ensures
+    c.if-out-count.false _ (ap (λ l. l ++ drop count c.args.out.now) c.copy_apart.ensures) _ refl c.named_by.ensures
 
-pub copy_bytes-requires-clause-src_has_bytes : goal.copy_bytes-requires-clause-src_has_bytes
-copy_bytes-requires-clause-src_has_bytes g c =
+pub shared_whole_as_front-copy_apart : goal.shared_whole_as_front-copy_apart
+shared_whole_as_front-copy_apart g c =
     let h = c.in_ok-parts.ensures in
-    omega (
-      arith,
-      few-leaves _ _ h,
-      (c.put_verdicts-count.ensures _ h.0.records h.0.expr (read-laid _ _ h)).counted,
-      c.put_verdicts-count.auto.out,
-    )
+    let held = few-leaves _ _ h in
+    let counted = (c.put_verdicts-count.ensures _ h.0.records h.0.expr (read-laid _ _ h)).counted in
+    let kept = c.put_verdicts-count.auto.out in
+    (omega (arith, held, counted, kept), omega (arith, kept, c.requires.1))

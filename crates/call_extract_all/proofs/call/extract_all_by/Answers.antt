@@ -1,7 +1,9 @@
 -- A refused frame has its own refusal. Of a good one a buffer as long as the frame is written at once; a
 -- shorter one once it is known to be long enough.
 use native.Mathlib.Omega.{arith}
-use lib.ListN.{replicate, length-replicate}
+use mathlib.Core.Path.{ap}
+use mathlib.Core.List.{◌++◌}
+use lib.ListN.{drop, replicate, length-replicate}
 use Rattle.node_reader.proofs.Reading.{kept}
 use Rattle.node_reader.proofs.Standing.{all-bytes}
 use Rattle.call_extract_all.proofs.Calling.{GoodFrame, OwnMemory, all-refused, good-read, tree-within, tree-read, clear-memory, straight-fits, straight, own-fits, own-holds, too_short, copied}
@@ -67,22 +69,21 @@ returns-then-out-taken g c =
     (memory g (goal.at.returns-then-out-taken g c).Start) call.new.out call.result
     call.auto.out (call.ensures it.frame it.at) c.if-out-taken.true
 
-pub copy_bytes-requires : goal.copy_bytes-requires
-copy_bytes-requires g c =
-    let it = good g (goal.at.copy_bytes-requires g c).In_ok-parts in
+pub shared_whole_as_front-copy_apart : goal.shared_whole_as_front-copy_apart
+shared_whole_as_front-copy_apart g c =
+    let it = good g (goal.at.shared_whole_as_front-copy_apart g c).In_ok-parts in
     let call = c.put_all-taken in
-    record {
-      src_has_bytes = own-holds c.args.settings.good c.args.frame.now c.args.out.now it
-          (memory g (goal.at.copy_bytes-requires g c).Start) call.new.out
-          call.result call.auto.out (call.ensures it.frame it.at);
-      out_has_room = c.if-out-taken.false;
-    }
+    let holds = own-holds c.args.settings.good c.args.frame.now c.args.out.now it
+    (memory g (goal.at.shared_whole_as_front-copy_apart g c).Start) call.new.out
+    call.result call.auto.out (call.ensures it.frame it.at) in
+    (omega (arith, holds), omega (arith, c.requires.bytes.1))
 
 pub returns : goal.returns
 returns g c =
     let it = good g (goal.at.returns g c).In_ok-parts in
     let call = c.put_all-taken in
-    let copy = c.copy_bytes in
+    let copy = c.copy_apart in
     copied c.args.settings.good c.args.frame.now c.args.out.now it
     (memory g (goal.at.returns g c).Start) call.new.out call.result
-    call.auto.out (call.ensures it.frame it.at) c.if-out-taken.false copy.new.out copy.ensures
+    call.auto.out (call.ensures it.frame it.at) c.if-out-taken.false
+    (copy.new.out ++ drop call.result.length c.args.out.now) (ap (λ l. l ++ drop call.result.length c.args.out.now) copy.ensures)

@@ -22,5 +22,5 @@ returns c =
     frame-moved c.args.part.now c.args.k number.result p number.ensures put.new.out put.result put.ensures
     (copied-down put.new.out front back to (1057 + 1024 * c.args.k) number.result split.ensures.value
     (split.ensures.front_len ∙ omega arith) (split.ensures.back ∙ ap (λ (m : ℕ). drop m put.new.out) (omega arith))
-    (omega (arith, p.fits, number.ensures)) room c.copy_from_slice.ensures.after
-    (ap (λ (m : ℕ). (take to front ++ (c.copy_from_slice.new.self ++ drop m (drop to front))) ++ back) (omega arith)))
+    (omega (arith, p.fits, number.ensures)) room c.copy_apart.ensures
+    (ap (λ (m : ℕ). (take to front ++ (c.copy_apart.new.out ++ drop m (drop to front))) ++ back) (omega arith)))
