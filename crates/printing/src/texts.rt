@@ -8,7 +8,7 @@ ghost use Rattle.printing.specs.Texts.{NodePrinted, RowFits, RowPrinted};
 use super::marks::{put_before, put_closing, put_opening};
 use expression::heads::head_at;
 
-// Where a print read up to and where its text ends: two places, where `Copied` of plan_writer has a place and a count.
+// Where a print read up to and where its text ends.
 #[derive(Clone, Copy)]
 pub struct Printed {
     pub read: usize,

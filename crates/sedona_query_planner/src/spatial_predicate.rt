@@ -28,7 +28,7 @@ pub struct DistancePredicate {
     pub distance: usize,
     pub distance_end: usize,
     pub distance_side: JoinSide,
-    // The form, by document 01's number.
+    // The number of its form.
     pub form: u8,
 }
 
