@@ -9,6 +9,7 @@ use super::knn_query_side::{KNNJoinQuerySide, find_knn_query_side};
 use super::predicate_names::{PredicateNames, collect_spatial_predicate_names};
 use filter_tree::lengths::{MIDDLE_BYTES, MIDDLE_NODES, MOST_NODES, SHORT_BYTES, SHORT_NODES};
 use filter_tree::tree::Tree;
+use frame_reader::frame_bodies::opened;
 use frame_reader::frames::logical_frame_in;
 use node_table::{NO_RECORD, NodeRecord};
 use terms::refusals::Refusal;
@@ -47,10 +48,12 @@ fn logical_by<const N: usize>(frame: &[u8]) -> Result<Names, Refusal>
     logical_in(&mut [NO_RECORD; N], frame)
 }
 
-// Reads a logical frame; there is no plan and nothing is written. A short row is enough for a short frame.
+// Reads a logical frame; there is no plan and nothing is written. A short row is enough for a short frame, and what is none by its length or
+// its first byte needs no row.
 pub fn logical(frame: &[u8]) -> Result<Names, Refusal>
     ensures { names_of result ≡ definitions.logical frame.now }
 {
+    opened(frame, 2)?;
     if frame.len() <= SHORT_BYTES {
         logical_by::<SHORT_NODES>(frame)
     } else if frame.len() <= MIDDLE_BYTES {
