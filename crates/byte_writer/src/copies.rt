@@ -14,14 +14,23 @@ pub fn copy_bytes(out: &mut [u8], src: &[u8], from: usize, n: usize)
     }
 }
 
-// Copies all bytes of `src` over `out`, which is as long and may be seen to lie apart from it, as a row of the caller's own. Never inlined:
-// where a compiler sees that, it makes of the loop a call of C's memcpy or memmove, a name that the library would need from its host.
+// Copies all bytes of `src` over `out`, which is as long.
+#[inline]
+pub fn copy_over(out: &mut [u8], src: &[u8])
+    requires { length out.old ≡ length src.now }
+    ensures { out.new ≡ src.now }
+{
+    copy_bytes(out, src, 0, src.len());
+}
+
+// The same where the two may be seen to lie apart, as a row of the caller's own and what it is lent. Never inlined: where a compiler sees
+// that, it makes of the loop a call of C's memcpy or memmove, a name that the library would need from its host.
 #[inline(never)]
 pub fn copy_apart(out: &mut [u8], src: &[u8])
     requires { length out.old ≡ length src.now }
     ensures { out.new ≡ src.now }
 {
-    copy_bytes(out, src, 0, src.len());
+    copy_over(out, src);
 }
 
 // Copies the bytes from one place up to another to `out` from w on; answers where they end.

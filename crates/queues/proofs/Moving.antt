@@ -1,30 +1,50 @@
--- Bytes copied down inside one buffer, and bytes written to a part of it.
-use Prim.Native.Nat.{ℕ, ◌+◌, ◌-◌, ◌≤◌}
+-- Bytes moved down inside one buffer, and bytes written to a part of it.
+use Prim.Native.Nat.{ℕ, ◌+◌, ◌-◌, ◌≤◌, ◌<◌}
 use native.Mathlib.Omega.{arith}
+use native.Mathlib.Numerals.{add-one}
 use mathlib.Core.Path.{◌≡◌, refl, sym, ap, ap₂, ◌∙◌}
 use mathlib.Core.List.{List, ◌++◌, append_assoc}
-use lib.ListN.{length, take, drop, length-append}
-use lib.Seq.{length-take-le, take-append-add, drop-append-add, take-append-le, drop-append-le, drop-drop}
+use lib.ListN.{length, take, drop, get_or, set, length-append, length-drop, length-set}
+use lib.Seq.{paste, paste-zero, paste-suc, drop-paste, get_or-drop, length-take-le, take-append-add, drop-append-add, take-append-le, drop-append-le, drop-drop}
 use Rattle.byte_writer.specs.Written.{WroteAt}
 
--- Bytes copied from behind a place of a buffer to before it were written there.
-pub copied-down : (s front back : List ℕ) (to from n : ℕ) {part after : List ℕ} → s ≡ front ++ back → length front ≡ from
-    → back ≡ drop from s
-    → to + n ≤ from → n ≤ length back → part ≡ take n back → after ≡ (take to front ++ (part ++ drop n (drop to front))) ++ back
-    → WroteAt to (take n (drop from s)) s after (to + n)
-copied-down s front back to from n {part} {after} whole long behind below room same e =
-    let x : List ℕ = take n (drop from s) in
-    let size : length x ≡ n = length-take-le n (drop from s) (omega (arith, room, ap length behind)) in
-    let rest : drop n (drop to front) ++ back ≡ drop (to + length x) s =
-    ap (λ (l : List ℕ). l ++ back) (drop-drop n to front) ∙ sym (drop-append-le (to + n) front back (omega arith))
-    ∙ ap₂ (λ (k : ℕ) (l : List ℕ). drop (to + k) l) (sym size) (sym whole) in
-    record {
-      ends = ap (λ (k : ℕ). to + k) (sym size);
-      out =
-          e ∙ append_assoc (take to front) (part ++ drop n (drop to front)) back
-          ∙ ap₂ ◌++◌ (sym (take-append-le to front back (omega arith)) ∙ ap (take to) (sym whole))
-          (append_assoc part (drop n (drop to front)) back ∙ ap₂ ◌++◌ (same ∙ ap (take n) behind) rest);
-    }
+-- i bytes are moved.
+pub record Moved (before : List ℕ) (to from n : ℕ) (s : List ℕ) (i : ℕ) : Type 0 where
+  pub below : i ≤ n
+  pub long : length s ≡ length before
+  pub bytes : s ≡ paste before to (drop from before) i
+
+module _ (before : List ℕ) (to from n : ℕ) (down : to ≤ from) (room : from + n ≤ length before) where
+  pub none-moved : Moved before to from n before 0
+  none-moved = record { below = omega arith; long = refl; bytes = paste-zero before to (drop from before) }
+
+  pub one-moved : (s : List ℕ) (i : ℕ) → i < n → Moved before to from n s i
+      → Moved before to from n (set s (to + i) (get_or s (from + i) 0)) (i + 1)
+  one-moved s i more h =
+      let some : i < length (drop from before) = simp length-drop (omega arith) in
+      let behind : drop (to + i) s ≡ drop (to + i) before =
+      ap (drop (to + i)) h.bytes ∙ drop-paste before to (drop from before) i (omega arith) (omega arith) in
+      let place : to + i + (from - to) ≡ from + i = omega arith in
+      let same : get_or s (from + i) 0 ≡ get_or (drop from before) i 0 =
+      ap (λ (k : ℕ). get_or s k 0) (sym place) ∙ sym (get_or-drop (to + i) s (from - to) 0)
+      ∙ ap (λ (l : List ℕ). get_or l (from - to) 0) behind
+      ∙ get_or-drop (to + i) before (from - to) 0 ∙ ap (λ (k : ℕ). get_or before k 0) place ∙ sym (get_or-drop from before i 0) in
+      record {
+        below = omega arith;
+        long = length-set s (to + i) _ ∙ h.long;
+        bytes =
+            ap₂ (λ (l : List ℕ) (b : ℕ). set l (to + i) b) h.bytes same ∙ paste-suc before to (drop from before) i 0 (omega arith) some
+            ∙ ap (paste before to (drop from before)) (sym (add-one i));
+      }
+
+  pub all_moved : {s : List ℕ} {i : ℕ} → i ≡ n → Moved before to from n s i → WroteAt to (take n (drop from before)) before s (to + n)
+  all_moved {s} {i} e h =
+      let size : length (take n (drop from before)) ≡ n = length-take-le n (drop from before) (simp length-drop (omega arith)) in
+      record {
+        ends = ap (λ (k : ℕ). to + k) (sym size);
+        out = h.bytes ∙ ap (paste before to (drop from before)) e ∙ append_assoc (take to before) (take n (drop from before)) _
+            ∙ ap (λ (k : ℕ). take to before ++ (take n (drop from before) ++ drop (to + k) before)) (sym size);
+      }
 
 -- What is written to a part of a buffer leaves what is around the part.
 pub wrote-in : (p part s x : List ℕ) (n w : ℕ) {before after : List ℕ} {answer : ℕ} → length p ≡ n → w + length x ≤ length part

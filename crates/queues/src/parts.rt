@@ -1,11 +1,12 @@
 // The bytes of one queue: count, lengths, places.
-ghost use Rattle.std.specs.Prelude.{◌≡◌};
+ghost use Rattle.std.specs.Prelude.{◌≡◌, ◌+◌, ◌≤◌, length, take, drop};
 ghost use Rattle.definitions.specs.Calls.QueueBytes.{start};
+ghost use Rattle.byte_writer.specs.Written.{WroteAt};
 ghost use Rattle.queues.specs.Outcomes.{queue_is};
 ghost use Rattle.queues.specs.Parts.{HasRoom, FrameAdded, HasNext, FrameMoved, HasFirst, FirstTaken};
 
 use crate::answers::Queue;
-use byte_writer::copies::copy_apart;
+use byte_writer::copies::copy_over;
 use byte_writer::numbers::put_number;
 use expression::fields::short_at;
 
@@ -48,11 +49,22 @@ pub(crate) fn add_frame(part: &mut [u8], count: usize, frame: &[u8])
     let n = frame.len();
     put_number(part, LENGTHS + 2 * count, 2, n);
     let place = PLACES + LONGEST * count;
-    copy_apart(&mut part[place..place + n], frame);
+    copy_over(&mut part[place..place + n], frame);
     part[0] = (count + 1) as u8;
 }
 
-// Moves the frame of place k + 1 to place k. The places lie apart, so that the bytes are copied and not moved one by one.
+// Moves n bytes down to `to`.
+fn move_bytes(s: &mut [u8], to: usize, from: usize, n: usize)
+    requires to_le_from { to ≤ from }
+    requires n_in_bounds { from + n ≤ length s.old }
+    ensures { WroteAt to (take n (drop from s.old)) s.old s.new (to + n) }
+{
+    for i in 0..n {
+        s[to + i] = s[from + i];
+    }
+}
+
+// Moves the frame of place k + 1 to place k.
 fn move_frame(part: &mut [u8], k: usize)
     requires { HasNext part.old k }
     ensures { FrameMoved part.old k part.new }
@@ -60,8 +72,7 @@ fn move_frame(part: &mut [u8], k: usize)
     let n = short_at(part, SECOND_LENGTH + 2 * k);
     put_number(part, LENGTHS + 2 * k, 2, n);
     let to = PLACES + LONGEST * k;
-    let (front, back) = part.split_at_mut(to + LONGEST);
-    copy_apart(&mut front[to..to + n], &back[..n]);
+    move_bytes(part, to, to + LONGEST, n);
 }
 
 // Takes the oldest frame out: moves the later ones down by one place.

@@ -6,7 +6,7 @@ ghost use Rattle.queues.specs.Held.{Held, FirstOf, DueIs, HoldsQueued, ServedFro
 use crate::answers::{Queue, ServeAnswer};
 use crate::held::good_queues;
 use crate::parts::{LENGTHS, PART, PLACES, queue_start, take_first};
-use byte_writer::copies::copy_apart;
+use byte_writer::copies::copy_over;
 use expression::fields::short_at;
 use terms::refusals::Refusal;
 
@@ -48,7 +48,7 @@ fn serve_from(queues: &mut [u8], queue: Queue, out: &mut [u8]) -> ServeAnswer
     if out.len() < n {
         return Err(Refusal::BufferTooShort);
     }
-    copy_apart(&mut out[..n], &part[PLACES..PLACES + n]);
+    copy_over(&mut out[..n], &part[PLACES..PLACES + n]);
     take_first(&mut queues[at..at + PART]);
     queues[0] = queue.mark_byte();
     Ok(Some((queue, n)))

@@ -16,5 +16,5 @@ returns c =
       ended = c.put_number-place.result;
       number = c.put_number-place.ensures;
       bytes = copied-over c.put_number-place.new.out c.args.frame.now (33 + 1024 * c.args.count) _ (omega arith)
-          c.copy_apart.ensures refl;
+          c.copy_over.ensures refl;
     })

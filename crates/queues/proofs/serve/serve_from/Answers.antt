@@ -25,8 +25,8 @@ returns-then-out-n c =
     out-short c.args.queues.now (queue_is c.args.queue) _ _ c.queue_start-at.ensures (omega arith) c.requires
     _ c.short_at-n.ensures c.args.out.now S f later is first c.if-out-n.true
 
-pub slice_bounds-copy_apart-end-3 : goal.slice_bounds-copy_apart-end-3
-slice_bounds-copy_apart-end-3 c =
+pub slice_bounds-copy_over-end-3 : goal.slice_bounds-copy_over-end-3
+slice_bounds-copy_over-end-3 c =
     frame-within c.args.queues.now (queue_is c.args.queue) _ _ c.queue_start-at.ensures (omega arith) c.requires _ c.short_at-n.ensures
 
 pub take_first-requires : goal.take_first-requires
@@ -40,6 +40,6 @@ returns c =
     let count : 33 + c.short_at-n.result - 33 ≡ c.short_at-n.result = omega arith in
     frame-served c.args.queues.now (queue_is c.args.queue) _ _ c.queue_start-at.ensures (omega arith) c.requires
     _ c.short_at-n.ensures c.args.out.now S f later is first c.if-out-n.false
-    (search (rules, all-bytes)) (c.copy_apart.new.out ++ drop c.short_at-n.result c.args.out.now) c.take_first.new.part
-    _ c.mark_byte.ensures (rw count at (ap (λ l. l ++ drop c.short_at-n.result c.args.out.now) c.copy_apart.ensures))
+    (search (rules, all-bytes)) (c.copy_over.new.out ++ drop c.short_at-n.result c.args.out.now) c.take_first.new.part
+    _ c.mark_byte.ensures (rw count at (ap (λ l. l ++ drop c.short_at-n.result c.args.out.now) c.copy_over.ensures))
     c.take_first.ensures
