@@ -84,28 +84,51 @@ module _ {V : Type 0} (D : Deeds V) (s : List ℕ) (at count : ℕ) (child : Rea
                 (drop first.next s) s₁ (sym one.2 ∙ e₁) (λ g. before-refused xs (refuse xs n₂ s₂ g)) e₂))),
           )
 
--- What the loop over a row keeps after `done` of the nodes: they were within the limit, if those before the row were or one was read.
-pub record InVisits {V : Type 0} (D : Deeds V) (s : List ℕ) (at count many : ℕ) (child : Reader Expr) (v : V)
+-- What the loop over a row keeps after `done` of the nodes; `kept` is what is known of the limit on nodes.
+pub record InVisitsOf {V : Type 0} (kept : Type 0) (D : Deeds V) (s : List ℕ) (at count many : ℕ) (child : Reader Expr) (v : V)
     (next total done : ℕ) (u : V)
     : Type 0 where
   pub place : next ≤ length s
   pub low : count ≤ total
-  pub high : (done ≡ 0 → count ≤ 1024) → total ≤ 1024
+  pub high : kept
   pub rest : (r : Result Walked Refusal) (w : V)
       → RowVisit D s next total r (repeat_exprs (many - done) child) u w
       → RowVisit D s at count r (repeat_exprs many child) v w
 
+-- The nodes counted so far are within the limit.
+abbrev pub InVisits : {V : Type 0} (D : Deeds V) (s : List ℕ) (at count many : ℕ) (child : Reader Expr) (v : V)
+    (next total done : ℕ) (u : V) → Type 0
+InVisits D s at count many child v next total done u = InVisitsOf (total ≤ 1024) D s at count many child v next total done u
+
+-- They are if those before the row were, or if one of the row was read.
+abbrev pub InAnyVisits : {V : Type 0} (D : Deeds V) (s : List ℕ) (at count many : ℕ) (child : Reader Expr) (v : V)
+    (next total done : ℕ) (u : V) → Type 0
+InAnyVisits D s at count many child v next total done u =
+    InVisitsOf ((done ≡ 0 → count ≤ 1024) → total ≤ 1024) D s at count many child v next total done u
+
+module _ {V : Type 0} {D : Deeds V} {s : List ℕ} {at count many : ℕ} {child : Reader Expr} {v : V} {next total done : ℕ} {u : V} where
+  pub any-within : InAnyVisits D s at count many child v next total done u → count ≤ 1024
+      → InVisits D s at count many child v next total done u
+  any-within inv few = record { place = inv.place; low = inv.low; high = inv.high (λ e. few); rest = inv.rest }
+
+  pub within-any : InVisits D s at count many child v next total done u → InAnyVisits D s at count many child v next total done u
+  within-any inv = record { place = inv.place; low = inv.low; high = λ few. inv.high; rest = inv.rest }
+
 module _ {V : Type 0} (D : Deeds V) (s : List ℕ) (at count many : ℕ) (child : Reader Expr) (v : V) where
-  pub visits-begin : at ≤ length s → InVisits D s at count many child v at count 0 v
-  visits-begin w = record {
+  pub any-visits-begin : at ≤ length s → InAnyVisits D s at count many child v at count 0 v
+  any-visits-begin w = record {
     place = w;
     low = omega arith;
     high = λ few. few refl;
     rest = λ r u h. rw sub-zero at h;
   }
 
-module _ {V : Type 0} {D : Deeds V} {s : List ℕ} {at count many : ℕ} {child : Reader Expr} {v : V} {next total done : ℕ} {u : V}
-    (inv : InVisits D s at count many child v next total done u) where
+  pub visits-begin : at ≤ length s → count ≤ 1024 → InVisits D s at count many child v at count 0 v
+  visits-begin w few = any-within (any-visits-begin w) few
+
+module _ {V : Type 0} {kept : Type 0} {D : Deeds V} {s : List ℕ} {at count many : ℕ} {child : Reader Expr} {v : V}
+    {next total done : ℕ} {u : V}
+    (inv : InVisitsOf kept D s at count many child v next total done u) where
   more : (fewer : ℕ) → many - done ≡ suc fewer → (r : Result Walked Refusal) (w : V)
       → RowVisit D s next total r (repeat_exprs (suc fewer) child) u w
       → RowVisit D s at count r (repeat_exprs many child) v w
@@ -118,7 +141,7 @@ module _ {V : Type 0} {D : Deeds V} {s : List ℕ} {at count many : ℕ} {child 
   visits-go-on some first {u₁} one counted = record {
     place = one.0;
     low = omega (arith, inv.low, counted.0);
-    high = λ few. counted.1;
+    high = counted.1;
     rest = λ r w visit. more (many - (done + 1)) (omega arith) r w
         (in-front D s next total child u u₁ first one (many - (done + 1)) r w visit);
   }
@@ -136,8 +159,10 @@ module _ {V : Type 0} {D : Deeds V} {s : List ℕ} {at count many : ℕ} {child 
       inv.rest (Ok (record { next = next; count = total })) u
       (rw e (none-visited D s next total child u inv.place))
 
-  pub visits-counted : many ≤ done → (many ≡ 0 → count ≤ 1024) → Counted count 1 (Ok (record { next = next; count = total }))
-  visits-counted none few = (omega (arith, inv.low), inv.high (λ e. few (omega (arith, none, e))))
+pub visits-counted : {V : Type 0} {D : Deeds V} {s : List ℕ} {at count many : ℕ} {child : Reader Expr} {v : V} {next total done : ℕ}
+    {u : V} → InAnyVisits D s at count many child v next total done u
+    → many ≤ done → (many ≡ 0 → count ≤ 1024) → Counted count 1 (Ok (record { next = next; count = total }))
+visits-counted inv none few = (omega (arith, inv.low), inv.high (λ e. few (omega (arith, none, e))))
 
 -- ---- the node
 
@@ -273,7 +298,7 @@ no-child : {V : Type 0} (D : Deeds V) (c : Columns) (s : List ℕ) (at levels co
     → RowVisit D s head.next (count + 1) (Ok (record { next = head.next; count = count + 1 }))
     (repeat_exprs head.children (node c (levels - 1))) u u
 no-child D c s at levels count head above none u =
-    visits-end (visits-begin D s head.next (count + 1) head.children (node c (levels - 1)) u above.0) (omega arith)
+    visits-end (any-visits-begin D s head.next (count + 1) head.children (node c (levels - 1)) u above.0) (omega arith)
 
 module _ {V : Type 0} (D : Deeds V) (c : Columns) (s : List ℕ) (at levels count : ℕ) (head : Head)
     (above : NodeHead s at levels count c (Ok head)) (bytes : AllBytes s) (within : at ≤ length s) {v : V} {kind : ℕ}

@@ -2,7 +2,7 @@
 use mathlib.Core.Path.{refl}
 use Rattle.node_reader.proofs.Reading.{kept}
 use Rattle.terms.specs.declared.refusals.Refusal.TheVariants.{NoGoodPlan}
-use Rattle.node_reader.proofs.Visiting.{visits-fail, visits-go-on, visits-end, visits-counted, below-fails, node-visited, closing-fails, leaf-visited}
+use Rattle.node_reader.proofs.Visiting.{visits-fail, within-any, visits-go-on, visits-end, visits-counted, below-fails, node-visited, closing-fails, leaf-visited}
 use Rattle.node_reader.proofs.walk.+walks.Goals as goal
 
 pub children-returns-in_err-here-clause-read : goal.children-returns-in_err-here-clause-read
@@ -11,7 +11,7 @@ children-returns-in_err-here-clause-read g t c =
 
 pub children-loop-preserved : goal.children-loop-preserved
 children-loop-preserved g t c =
-    visits-go-on c.loop.invariant c.loop-test.true c.in_ok-here.here c.in_ok-here.ensures.read c.in_ok-here.ensures.counted
+    within-any (visits-go-on c.loop.invariant c.loop-test.true c.in_ok-here.here c.in_ok-here.ensures.read c.in_ok-here.ensures.counted)
 
 pub children-returns-clause-read : goal.children-returns-clause-read
 children-returns-clause-read g t c =
