@@ -29,7 +29,7 @@ use Rattle.theorems.proofs.Walks.{moved}
 use Rattle.node_table.specs.declared.NodeRecord.{NodeRecord as Lent}
 use Rattle.filter_tree.specs.Trees.{Noded, Node as Within, OfNode}
 use Rattle.filter_tree.proofs.Children.{noded-first, noded-rest}
-use Rattle.filter_tree.proofs.Scans.{noded-within}
+use Rattle.filter_tree.proofs.Scans.{noded-within, scan-begins}
 use Rattle.filter_tree.proofs.Indexes.{both-noded}
 use Rattle.expression.proofs.OneTree.{of_tree}
 use Rattle.leaf_matching.specs.Frames.{Over, Framed, OfFrame}
@@ -227,6 +227,15 @@ module _ {match : Matcher} {wanted : Wanted} {s : List ℕ} {nodes : List Lent} 
         inv.rest (Continue (record { position = _; after = _ }))
         (λ records t over. (nothing records t over, after stop.at t (inv.noded _ t over.tree)))
 
+    -- What is found from the node that it came to, with no word of where that ends, is found from the first.
+    pub along-found : (r : Found) → OfFrame s rec stop.at (FoundIs match wanted s stop.at stop.position above r)
+        → OfFrame s rec from.at (FoundIs match wanted s from.at from.position parent r)
+    along-found (Break p) = along-taken
+    along-found (Continue position) = λ nothing records t over.
+        let h = inv.noded _ _ inv.there.2.tree in
+        (along-passed {after = stop.index + nodes_in inv.there.1} nothing (λ at u k. omega (arith, scan-begins h, scan-begins k))
+        records t over).0
+
     module _ {left : ℕ} {found : Node} (is : OfTreeIn s stop.at (λ c t. NodeIs c s stop.at found t)) (told : found ≡ node.And left) where
       its-both : Both and (index_below (length inv.there.0)) s stop.at left inv.there.1
       its-both = rw told at (is _ inv.there.1 inv.there.2.tree)
@@ -254,58 +263,64 @@ module _ {match : Matcher} {wanted : Wanted} {s : List ℕ} {nodes : List Lent} 
           → OfFrame s rec from.at (FirstIs match wanted s from.at from.position parent p)
       along-left {p} inner = inv.rest (Break p) (match-left is told inner)
 
-      module _ {right : ℕ} {passed : Passed}
-          (inner : OfFrame s rec left (FoundOrPassed match wanted s left_stop stop.at (Continue passed)))
+      -- Where it was passed, nothing is found in it, and its records end where the answer says.
+      pub left-passed : {passed : Passed} → OfFrame s rec left (FoundOrPassed match wanted s left_stop stop.at (Continue passed))
+          → OfFrame s rec left (NothingIs match wanted stop.position passed.position)
+          × OfNode nodes (stop.index + 1) (λ at t. passed.after ≡ stop.index + 1 + nodes_in t)
+      left-passed inner =
+          let c : Children s rec stop.at left inv.there.0 inv.there.1 = its-children is told inv.there.2 in (
+            λ records t over. (inner records t over).0,
+            λ at t h.
+                omega (arith, (inner inv.there.0 c.l c.first).1, scan-begins h, scan-begins (along-noded _ c.l c.first.tree)),
+          )
+
+      module _ {right counted : ℕ} (nothing : OfFrame s rec left (NothingIs match wanted stop.position counted))
           (ends : OfNode nodes (stop.index + 1) (λ at t. right ≡ at + length (expr_bytes t)))
         where
-          nothing : OfFrame s rec left (NothingIs match wanted stop.position passed.position)
-          nothing records t over = (inner records t over).0
-
           left-ends : OfTree s left (λ l. right ≡ left + length (expr_bytes l))
           left-ends d l stands = ends left l (along-noded d l stands)
 
-          after-left : Framed s rec right × (stop.at < right) × (passed.position ≤ right)
+          after-left : Framed s rec right × (stop.at < right) × (counted ≤ right)
           after-left = right-framed is told nothing left-ends inv.there inv.few
 
           pub along-less : length s - right < length s - stop.at
           along-less = omega (arith, after-left.1, node-some inv.there.2.tree)
 
-          -- The right side, from where the left one ends.
-          abbrev pub right_stop : Stop
-          right_stop = record { at = right; index = passed.after; position = passed.position }
+          module _ (k : ℕ) (after : OfNode nodes (stop.index + 1) (λ at t. k ≡ stop.index + 1 + nodes_in t)) where
+            -- The right side, from where the left one ends.
+            abbrev pub right_stop : Stop
+            right_stop = record { at = right; index = k; position = counted }
 
-          passed-on : (r : ControlFlow Pick Passed) → OfFrame s rec right (FoundOrPassed match wanted s right_stop stop.at r)
-              → OfFrame s rec stop.at (FoundOrPassed match wanted s stop above r)
-          passed-on (Break p) outer records t over = match-right is told nothing left-ends above (Break p) outer records t over
-          passed-on (Continue x) outer records t over =
-              let c : Children s rec stop.at left records t = its-children is told over in
-              let e : right ≡ left + length (expr_bytes c.l) = left-ends _ c.l c.first.tree in (
-                match-right is told nothing left-ends above (Continue x.position) (λ records t over. (outer records t over).0)
-                    records t over,
-                omega (
-                  arith,
-                  (outer records c.r (c.second right e)).1,
-                  (inner records c.l c.first).1,
-                  ap nodes_in c.is,
-                  both-nodes c.l c.r,
-                ),
-              )
+            passed-on : (r : ControlFlow Pick Passed) → OfFrame s rec right (FoundOrPassed match wanted s right_stop stop.at r)
+                → OfFrame s rec stop.at (FoundOrPassed match wanted s stop above r)
+            passed-on (Break p) outer records t over = match-right is told nothing left-ends above (Break p) outer records t over
+            passed-on (Continue x) outer records t over =
+                let c : Children s rec stop.at left records t = its-children is told over in
+                let e : right ≡ left + length (expr_bytes c.l) = left-ends _ c.l c.first.tree in (
+                  match-right is told nothing left-ends above (Continue x.position) (λ records t over. (outer records t over).0)
+                      records t over,
+                  omega (
+                    arith,
+                    (outer records c.r (c.second right e)).1,
+                    after left c.l (along-noded _ c.l c.first.tree),
+                    ap nodes_in c.is,
+                    both-nodes c.l c.r,
+                  ),
+                )
 
-          pub along-right : Along match wanted s nodes rec from parent right_stop stop.at
-          unfolding its-both its-children
-          along-right =
-              let b = its-both in
-              let h = inv.noded _ _ inv.there.2.tree in
-              let c = its-children is told inv.there.2 in
-              let e : right ≡ left + length (expr_bytes b.l) = left-ends _ b.l (first-stands b.row) in
-              record {
-                there = after-left.0;
-                noded = of_tree (Noded nodes right passed.after) (first-stands (rest-stands b.row right 1 e refl))
-                    (noded-first (noded-rest (both-noded h b) right passed.after e (inner inv.there.0 c.l c.first).1));
-                low = omega (arith, inv.low, after-left.1);
-                few = after-left.2;
-                rest = λ r outer. inv.rest r (passed-on r outer);
-              }
+            pub along-right : Along match wanted s nodes rec from parent right_stop stop.at
+            along-right =
+                let b = its-both in
+                let h = inv.noded _ _ inv.there.2.tree in
+                let e : right ≡ left + length (expr_bytes b.l) = left-ends _ b.l (first-stands b.row) in
+                record {
+                  there = after-left.0;
+                  noded = of_tree (Noded nodes right k) (first-stands (rest-stands b.row right 1 e refl))
+                      (noded-first (noded-rest (both-noded h b) right k e (after left b.l (noded-first (both-noded h b)))));
+                  low = omega (arith, inv.low, after-left.1);
+                  few = after-left.2;
+                  rest = λ r outer. inv.rest r (passed-on r outer);
+                }
 
 -- ---- two passes
 

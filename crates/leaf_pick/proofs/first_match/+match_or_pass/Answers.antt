@@ -4,7 +4,7 @@
 use native.Mathlib.Omega.{arith}
 use Rattle.leaf_matching.proofs.Framing.{framed-tree}
 use Rattle.expression.proofs.AndLeaves.{single-leaf}
-use Rattle.leaf_pick.proofs.FirstLaws.{along-begins, along-within, stop-node, along-taken, along-passed, along-noded, left-node, left_there, along-left, along-less, along-right}
+use Rattle.leaf_pick.proofs.FirstLaws.{along-begins, along-within, stop-node, along-taken, along-passed, along-noded, left-node, left_there, left-passed, along-left, along-less, along-right}
 use Rattle.leaf_pick.proofs.first_match.+match_or_pass.Goals as goal
 
 pub loop-left-init : goal.loop-left-init
@@ -58,8 +58,13 @@ end-requires t c =
 
 pub loop-left-smaller : goal.loop-left-smaller
 loop-left-smaller t c =
-    along-less c.loop-left.invariant c.node_at-node.ensures c.in-And.is c.in_ok-passed.ensures c.end.ensures
+    let inv = c.loop-left.invariant in
+    let node = c.node_at-node.ensures in
+    along-less inv node c.in-And.is (left-passed inv node c.in-And.is c.in_ok-passed.ensures).0 c.end.ensures
 
 pub loop-left-preserved : goal.loop-left-preserved
 loop-left-preserved t c =
-    along-right c.loop-left.invariant c.node_at-node.ensures c.in-And.is c.in_ok-passed.ensures c.end.ensures
+    let inv = c.loop-left.invariant in
+    let node = c.node_at-node.ensures in
+    let left = left-passed inv node c.in-And.is c.in_ok-passed.ensures in
+    along-right inv node c.in-And.is left.0 c.end.ensures _ left.1
